@@ -1,0 +1,29 @@
+//! The values of a QIR module: integers of a width, spellings of doubles, types, names and handles,
+//! and the lists and bytes that hold them.
+#![tactic(auto)]
+
+mod data;
+mod int;
+mod memory;
+mod room;
+mod seq;
+mod sig;
+mod token;
+mod ty;
+mod value;
+
+pub use data::{Copies, Exact};
+pub use int::{BinOp, Conv, Flags, Int, Pred, Width};
+pub use memory::Memory;
+pub use room::Room;
+pub use seq::Seq;
+pub use sig::{Sig, TyWord, Words};
+pub use token::Token;
+pub use ty::{Ty, Tys};
+pub use value::{BlockId, Cause, Class, FuncId, GlobalId, LocalId, Name, Value};
+
+/// A list of bytes, which contracts see as the list of its numbers from 0 to 255.
+pub type Bytes = Seq<u8>;
+
+#[cfg(test)]
+mod tests;

@@ -1,0 +1,106 @@
+use super::*;
+use std::alloc::Global;
+use std::test::Fail;
+
+fn bytes(alloc: Global, text: &[u8]) -> Result<Bytes, Memory> {
+    let mut bytes = Bytes::new(alloc);
+    bytes.extend_from_slice(text)?;
+    Ok(bytes)
+}
+
+#[test]
+fn doubles_are_spelled_so(rt: HostRuntime) -> Result<(), Fail> {
+    let cases: [(&[u8], bool); 14] = [
+        (b"1.", true),
+        (b"-0.25", true),
+        (b"+1.5e-10", true),
+        (b"2.E3", true),
+        (b"0x0123456789abcDEF", true),
+        (b"", false),
+        (b"1", false),
+        (b".5", false),
+        (b"1.5e", false),
+        (b"1.5e+", false),
+        (b"1.5.", false),
+        (b"0x0123456789abcde", false),
+        (b"0x0123456789abcdef0", false),
+        (b"-0x0123456789abcdef", false),
+    ];
+    for (text, expected) in cases {
+        match Token::new(bytes(rt.alloc(), text)?) {
+            Some(token) => {
+                assert!(rt; expected);
+                assert_eq!(rt; token.as_slice(), text);
+                assert!(rt; token.same(&token.copy(rt.alloc())?));
+            }
+            None => assert!(rt; !expected),
+        }
+    }
+    Ok(())
+}
+
+#[test]
+fn a_signature_is_its_words(rt: HostRuntime) -> Result<(), Fail> {
+    let alloc = rt.alloc();
+    let inner = Sig::new(alloc, &Ty::Void, &Tys::new(alloc))?;
+    let mut params = Tys::new(alloc);
+    params.push(Ty::Func(inner))?;
+    params.push(Ty::Qubit)?;
+    let sig = Sig::new(alloc, &Ty::Int(Width::W1), &params)?;
+    let expected = [
+        TyWord::Func(2),
+        TyWord::Int(Width::W1),
+        TyWord::Func(0),
+        TyWord::Void,
+        TyWord::Qubit,
+    ];
+    assert_eq!(rt; sig.words().as_slice(), expected.as_slice());
+    assert!(rt; sig.same(&sig.copy(alloc)?));
+    Ok(())
+}
+
+#[test]
+fn integers_keep_their_width(rt: HostRuntime) {
+    let cases = [
+        (Width::W1, 1, Some(-1)),
+        (Width::W1, 2, None),
+        (Width::W8, 127, Some(127)),
+        (Width::W8, 128, Some(-128)),
+        (Width::W8, 256, None),
+        (Width::W32, 0xffff_ffff, Some(-1)),
+        (Width::W64, 0x8000_0000_0000_0000, Some(i64::MIN)),
+    ];
+    for (width, bits, expected) in cases {
+        assert_eq!(rt; Int::new(width, bits).map(|i| i.signed()), expected);
+    }
+}
+
+#[test]
+fn lists_and_rooms_hold_their_items(rt: HostRuntime) -> Result<(), Fail> {
+    let alloc = rt.alloc();
+    let mut room = Room::new(alloc);
+    room.reserve(2)?;
+    room.push(Width::W8)?;
+    room.push(Width::W16)?;
+    assert_eq!(rt; room.as_slice(), [Width::W8, Width::W16].as_slice());
+    let mut list = room.into_seq();
+    list.set(0, Width::W64);
+    list.append(list.copy(alloc)?)?;
+    assert_eq!(rt; list.len(), 4);
+    assert_eq!(rt; list.pop(), Some(Width::W16));
+    assert!(rt; !list.is_empty());
+    assert_eq!(rt; *list.at(2), Width::W64);
+    assert_eq!(rt; Seq::from_vec(list.into_vec()).as_slice().len(), 3);
+    Ok(())
+}
+
+#[test]
+fn equal_values_are_one(rt: HostRuntime) -> Result<(), Fail> {
+    let alloc = rt.alloc();
+    let name = Name::Text(bytes(alloc, b"q")?);
+    assert!(rt; name.same(&name.copy(alloc)?));
+    assert!(rt; !name.same(&Name::Number(1)));
+    assert!(rt; !Value::Id(3).same(&Value::Alloc(3)));
+    assert!(rt; Value::Label(GlobalId(2)).same(&Value::Label(GlobalId(2))));
+    Ok(())
+}

@@ -1,0 +1,6 @@
+//! What a run records as its output (QIR specification, 'Output Schemas').
+#![tactic(auto)]
+
+mod record;
+
+pub use record::{Record, Records, Shown};

@@ -1,3 +1,4 @@
 pub mod Edges
 pub mod Places
+pub mod Steps
 pub mod Tree

@@ -1,5 +1,5 @@
 -- The texts of one block: allocations, releases and gates between a fixed head and a fixed tail.
-use Rattle.std.specs.Prelude.{◌≡◌, ℕ, ◌+◌, ◌==◌, ◌&&◌, not, nat_lt, nat_le, Bool, true, false, if◌then◌else◌, List, [], ◌∷◌, ◌++◌, length, codes, decimal, ◌≤◌, IsTrue}
+use Rattle.std.specs.Prelude.{ℕ, ◌==◌, ◌&&◌, not, nat_lt, nat_le, Bool, true, false, if◌then◌else◌, List, [], ◌∷◌, ◌++◌, length, codes, decimal, ◌≤◌, IsTrue}
 use Rattle.std.specs.List.{list_all, flat_map}
 use Rattle.ir_values.specs.Calls.{same_text}
 use Rattle.ir_reader.specs.declared.line.Gate.{Gate}

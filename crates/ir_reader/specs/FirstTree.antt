@@ -1,5 +1,5 @@
 -- The trees of these texts, and the places of their parts.
-use Rattle.std.specs.Prelude.{◌≡◌, ℕ, zero, suc, ◌+◌, ◌==◌, Bool, if◌then◌else◌, Option, None, Some, List, [], ◌∷◌, ◌++◌, length, map, codes, decimal}
+use Rattle.std.specs.Prelude.{ℕ, zero, suc, ◌+◌, if◌then◌else◌, Option, None, Some, List, [], ◌∷◌, ◌++◌, length, map, codes, decimal}
 use Rattle.ir_module.specs.declared.places.Place.{Place}
 use Rattle.ir_module.specs.declared.places.Point.{Point}
 use Rattle.ir_module.specs.declared.places.Spot.{Spot}
@@ -9,7 +9,6 @@ use Rattle.ir_module.specs.declared.tree.Block.{Block}
 use Rattle.ir_module.specs.declared.tree.Callee.TheVariants as callee
 use Rattle.ir_module.specs.declared.tree.Function.{Function}
 use Rattle.ir_module.specs.declared.tree.Inst.{Inst}
-use Rattle.ir_module.specs.declared.tree.InstKind.{InstKind}
 use Rattle.ir_module.specs.declared.tree.InstKind.TheVariants as kind
 use Rattle.ir_module.specs.declared.tree.Module.{Module}
 use Rattle.ir_module.specs.declared.tree.Operand.{Operand}

@@ -1,0 +1,3 @@
+pub mod BaseGates
+pub mod BaseText
+pub mod BaseTree

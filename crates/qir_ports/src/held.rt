@@ -1,0 +1,172 @@
+//! A source and a sink in memory, which tell their bytes and can be told to fail.
+ghost use Rattle.std.specs.Prelude.{◌≡◌, ◌+◌, ◌-◌, ◌≤◌, ◌++◌, [], ◌&&◌, ◌||◌, ◌==◌, not, length, take, drop, min, is_err, Some, IfOk, OnErr, OnOk};
+ghost use Rattle.qir_ports.specs.Held.{one_more, is_numbered};
+
+use crate::port::{Failed, Sink, Source};
+use ir_values::{Bytes, Memory, Room, Seq};
+use std::alloc::Global;
+use std::marker::Model;
+
+/// Numbers of calls, the first call being 1.
+pub type Calls = Seq<u64>;
+
+/// A source of given bytes.
+///
+/// Contracts see the bytes left, the most bytes that a call gives, the numbers of the calls that
+/// fail, and how many calls there were and failed, up to `u64::MAX`.
+#[derive(Debug, Drop)]
+pub struct MemSource {
+    text: Bytes,
+    at: usize,
+    piece: usize,
+    failing: Calls,
+    calls: u64,
+    failures: u64,
+}
+
+impl Model for MemSource {
+    ghost use Rattle.std.specs.Prelude.{◌≤◌, drop, length};
+    ghost use Rattle.qir_ports.specs.Held.{Text};
+
+    ghost Value = { Text };
+
+    ghost view = { λ s. record { rest = drop s.at s.text; piece = s.piece; failing = s.failing; calls = s.calls; failures = s.failures } };
+
+    ghost invariant = { λ s. (s.at ≤ length s.text) × (1 ≤ s.piece) };
+}
+
+impl MemSource {
+    /// A source of the bytes of `text`, of which a call gives at most `piece`. The calls that
+    /// `failing` numbers fail, and no other. It takes no memory.
+    pub fn new(text: Bytes, piece: usize, failing: Calls) -> MemSource
+        requires { 1 ≤ piece }
+        ensures { result ≡ record { rest = text; piece = piece; failing = failing; calls = 0; failures = 0 } }
+    {
+        MemSource {
+            text,
+            at: 0,
+            piece,
+            failing,
+            calls: 0,
+            failures: 0,
+        }
+    }
+}
+
+impl Source for MemSource {
+    ghost left = { λ s. Some s.rest };
+
+    ghost faults = { λ s. s.failures };
+
+    /// Gives the least of the buffer's length, `piece` and the number of bytes left. The rest of `buf`
+    /// stays as it was. It fails exactly where the call has a number that `failing` lists, and a call
+    /// after number `u64::MAX` has none.
+    fn read(&mut self, buf: &mut [u8]) -> Result<usize, Failed>
+        ensures within { IfOk result (λ n. n ≤ length buf.old) }
+        ensures fails { is_err result ≡ is_numbered self.old.failing self.old.calls }
+        ensures count { IfOk result (λ n. n ≡ min (length buf.old) (min self.old.piece (length self.old.rest))) }
+        ensures given { IfOk result (λ n. buf.new ≡ take n self.old.rest ++ drop n buf.old) }
+        ensures ok { IfOk result (λ n. self.new ≡ record self.old { rest = drop n self.old.rest; calls = one_more self.old.calls }) }
+        ensures err { OnErr result (self.new ≡ record self.old { calls = one_more self.old.calls; failures = one_more self.old.failures }) }
+        ensures unwritten { OnErr result (buf.new ≡ buf.old) }
+    {
+        let fails = is_listed(self.failing.as_slice(), self.calls);
+        self.calls = self.calls.saturating_add(1);
+        if fails {
+            self.failures = self.failures.saturating_add(1);
+            return Err(Failed);
+        }
+        let rest = &self.text.as_slice()[self.at..];
+        let n = buf.len().min(self.piece).min(rest.len());
+        buf[..n].copy_from_slice(&rest[..n]);
+        self.at += n;
+        Ok(n)
+    }
+}
+
+/// A sink that keeps what it takes, in memory that it has from the start.
+///
+/// Contracts see the bytes taken, the most bytes that a call takes and that all calls take, the
+/// numbers of the calls that fail, and how many calls there were and failed, up to `u64::MAX`.
+#[derive(Debug, Drop)]
+pub struct MemSink {
+    kept: Room<u8>,
+    piece: usize,
+    room: usize,
+    failing: Calls,
+    calls: u64,
+    failures: u64,
+}
+
+impl Model for MemSink {
+    ghost use Rattle.std.specs.Prelude.{◌+◌, ◌≤◌, length};
+    ghost use Rattle.qir_ports.specs.Held.{Page};
+
+    ghost Value = { Page };
+
+    ghost view = { λ k. record { bytes = k.kept.items; piece = k.piece; room = k.room; failing = k.failing; calls = k.calls; failures = k.failures } };
+
+    ghost invariant = { λ k. (1 ≤ k.piece) × (length k.kept.items ≤ k.room) × (k.room ≤ length k.kept.items + k.kept.spare) };
+}
+
+impl MemSink {
+    /// A sink for `room` bytes, of which a call takes at most `piece`. The calls that `failing`
+    /// numbers fail. [`Memory`] comes where there is none for `room` bytes.
+    pub fn new(alloc: Global, piece: usize, room: usize, failing: Calls) -> Result<MemSink, Memory>
+        requires { 1 ≤ piece }
+        ensures { IfOk result (λ k. k ≡ record { bytes = []; piece = piece; room = room; failing = failing; calls = 0; failures = 0 }) }
+    {
+        let mut kept = Room::new(alloc);
+        kept.reserve(room)?;
+        Ok(MemSink {
+            kept,
+            piece,
+            room,
+            failing,
+            calls: 0,
+            failures: 0,
+        })
+    }
+
+    /// The bytes taken.
+    pub fn taken(&self) -> &[u8]
+        ensures { result.now ≡ self.now.bytes }
+    {
+        self.kept.as_slice()
+    }
+}
+
+impl Sink for MemSink {
+    ghost taken = { λ k. Some k.bytes };
+
+    ghost faults = { λ k. k.failures };
+
+    /// Takes the least of the number of `bytes`, `piece` and the room left, and no memory. It fails
+    /// exactly where `bytes` is not empty and either the call has a number that `failing` lists or no
+    /// room is left. Empty `bytes` are a call too, at which nothing is taken.
+    fn write(&mut self, bytes: &[u8]) -> Result<usize, Failed>
+        ensures fails { is_err result ≡ not (length bytes.now == 0)
+            && (is_numbered self.old.failing self.old.calls || (length self.old.bytes == self.old.room)) }
+        ensures count { IfOk result (λ n. n ≡ min (length bytes.now) (min self.old.piece (self.old.room - length self.old.bytes))) }
+        ensures ok { IfOk result (λ n. self.new ≡ record self.old { bytes = self.old.bytes ++ take n bytes.now; calls = one_more self.old.calls }) }
+        ensures err { OnErr result (self.new ≡ record self.old { calls = one_more self.old.calls; failures = one_more self.old.failures }) }
+    {
+        let fails = is_listed(self.failing.as_slice(), self.calls);
+        self.calls = self.calls.saturating_add(1);
+        let room = self.room - self.kept.as_slice().len();
+        if !bytes.is_empty() && (fails || room == 0) {
+            self.failures = self.failures.saturating_add(1);
+            return Err(Failed);
+        }
+        let n = bytes.len().min(self.piece).min(room);
+        self.kept.extend_from_slice(&bytes[..n]).unwrap();
+        Ok(n)
+    }
+}
+
+/// Whether `failing` numbers the call after `calls` others.
+fn is_listed(failing: &[u64], calls: u64) -> bool
+    ensures { result ≡ is_numbered failing.now calls }
+{
+    calls < u64::MAX && failing.contains(&(calls + 1))
+}

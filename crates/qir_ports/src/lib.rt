@@ -1,0 +1,16 @@
+//! Where a text comes from and where output goes: sources and sinks of bytes, in memory and over the
+//! standard streams, and the two calls that read and write whole texts.
+#![tactic(auto)]
+
+mod held;
+mod port;
+mod stream;
+mod transfer;
+
+pub use held::{Calls, MemSink, MemSource};
+pub use port::{Failed, Sink, Source};
+pub use stream::{StdSink, StdSource};
+pub use transfer::{ReadError, WriteStop, read_all, write_all};
+
+#[cfg(test)]
+mod tests;

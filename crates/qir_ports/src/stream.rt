@@ -1,0 +1,99 @@
+//! The standard streams as a source and a sink. They tell nothing of their bytes: what a terminal, a
+//! file or a pipe gives or takes stands outside every contract.
+ghost use Rattle.std.specs.Prelude.{◌≡◌, None};
+
+use crate::port::{Failed, Sink, Source};
+use std::io::{BufRead, Read};
+use std::marker::Model;
+
+/// Standard input, or another reader. Contracts see its count of faults alone.
+#[derive(Drop)]
+pub struct StdSource<R> {
+    reader: R,
+    faults: u64,
+}
+
+impl<R> Model for StdSource<R> {
+    ghost use Rattle.std.specs.Prelude.{ℕ};
+
+    ghost Value = { ℕ };
+
+    ghost view = { λ s. s.faults };
+}
+
+impl<R: BufRead + Drop> StdSource<R> {
+    /// The input of the runtime, with no fault so far.
+    pub fn new<I: Input<Reader = R>>(rt: &I) -> StdSource<R>
+        ensures { result ≡ 0 }
+    {
+        StdSource {
+            reader: rt.reader(),
+            faults: 0,
+        }
+    }
+}
+
+impl<R: Read> Source for StdSource<R> {
+    ghost left = { λ _. None };
+
+    ghost faults = { λ s. s };
+
+    /// Reads once. Every error of the reader is a fault.
+    fn read(&mut self, buf: &mut [u8]) -> Result<usize, Failed> {
+        match self.reader.read(buf) {
+            Ok(n) => Ok(n),
+            Err(_) => {
+                self.faults = self.faults.saturating_add(1);
+                Err(Failed)
+            }
+        }
+    }
+}
+
+/// Standard output, or what else prints. Contracts see its count of faults alone.
+#[derive(Drop)]
+pub struct StdSink<'a, P> {
+    printer: &'a P,
+    faults: u64,
+}
+
+impl<'a, P> Model for StdSink<'a, P> {
+    ghost use Rattle.std.specs.Prelude.{ℕ};
+
+    ghost Value = { ℕ };
+
+    ghost view = { λ k. k.faults };
+}
+
+impl<'a, P: Print> StdSink<'a, P> {
+    /// The output of the runtime, with no fault so far.
+    pub fn new(rt: &'a P) -> StdSink<'a, P>
+        ensures { result ≡ 0 }
+    {
+        StdSink {
+            printer: rt,
+            faults: 0,
+        }
+    }
+}
+
+impl<P: Print> Sink for StdSink<'_, P> {
+    ghost taken = { λ _. None };
+
+    ghost faults = { λ k. k };
+
+    /// Writes once, past every buffer. Every error of the printer is a fault, and so is a write that
+    /// takes nothing. Empty `bytes` are not written at all.
+    fn write(&mut self, bytes: &[u8]) -> Result<usize, Failed> {
+        if bytes.is_empty() {
+            return Ok(0);
+        }
+        match self.printer.write_some(bytes) {
+            Ok(n) if n > 0 => Ok(n),
+            _ => {
+                self.faults = self.faults.saturating_add(1);
+                Err(Failed)
+            }
+        }
+    }
+}

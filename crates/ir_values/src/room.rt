@@ -72,3 +72,17 @@ impl<T: Drop> Room<T> {
         Ok(())
     }
 }
+
+impl<T: Copy + Drop> Room<T> {
+    /// Adds the items of a slice last, which needs no memory where there is room for all of them.
+    /// [`Memory`] leaves the items as they were.
+    pub fn extend_from_slice(&mut self, more: &[T]) -> Result<(), Memory>
+        ensures ok { OnOk result (self.new.items ≡ self.old.items ++ more.now) }
+        ensures err { OnErr result (self.new.items ≡ self.old.items) }
+        ensures succeeds { length more.now ≤ self.old.spare → IsOk result }
+        ensures spare { self.old.spare ≤ self.new.spare + length more.now }
+    {
+        self.items.extend_from_slice(more)?;
+        Ok(())
+    }
+}

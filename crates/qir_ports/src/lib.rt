@@ -2,12 +2,12 @@
 //! standard streams, and the two calls that read and write whole texts.
 #![tactic(auto)]
 
-mod held;
+mod in_memory;
 mod port;
 mod stream;
 mod transfer;
 
-pub use held::{Calls, MemSink, MemSource};
+pub use in_memory::{Calls, MemSink, MemSource};
 pub use port::{Failed, Sink, Source};
 pub use stream::{StdSink, StdSource};
 pub use transfer::{ReadError, WriteStop, read_all, write_all};

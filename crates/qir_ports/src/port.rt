@@ -2,15 +2,18 @@
 ghost use Rattle.std.specs.Prelude.{◌≡◌, ℕ, ◌<◌, ◌≤◌, List, length, take, Option, IfOk, OnErr};
 ghost use Rattle.qir_ports.specs.Known.{Rose, Gives, Takes, IsAtEnd};
 
+use thiserror::Error;
+
 /// A read or a write failed, and moved no byte.
-#[derive(Clone, Copy, Debug, PartialEq, Eq, Hash)]
+#[derive(Clone, Copy, Debug, PartialEq, Eq, Hash, Error)]
+#[error("a read or a write failed")]
 pub struct Failed;
 
 /// What gives bytes.
 ///
 /// A source may tell contracts which bytes it has left. One that tells them does so after each call,
 /// and one that does not never does. It counts its faults from 0. The count never falls, and stands
-/// still at `u64::MAX`.
+/// still at `u64::MAX`. It rises where a call fails, and it may rise where one does not.
 pub trait Source {
     /// The bytes that it has left, where it tells them.
     ghost left: { Self → Option (List ℕ) };
@@ -34,7 +37,7 @@ pub trait Source {
 ///
 /// A sink may tell contracts which bytes it took. One that tells them does so after each call, and
 /// one that does not never does. It counts its faults from 0. The count never falls, and stands still
-/// at `u64::MAX`.
+/// at `u64::MAX`. It rises where a call fails, and it may rise where one does not.
 pub trait Sink {
     /// The bytes that it took, where it tells them.
     ghost taken: { Self → Option (List ℕ) };

@@ -1,1 +1,119 @@
 use super::*;
+use ir_values::{Bytes, Memory};
+use std::alloc::{Allocator, Global};
+use std::fmt::Display;
+use std::io;
+use std::io::{BufRead, ErrorKind, Lines, Read};
+use std::test::Fail;
+
+fn text_of(alloc: Global, len: usize) -> Result<Bytes, Memory> {
+    let mut text = Bytes::new(alloc);
+    for i in 0..len {
+        text.push((i % 251) as u8)?;
+    }
+    Ok(text)
+}
+
+fn calls_of(alloc: Global, numbers: &[u64]) -> Result<Calls, Memory> {
+    let mut calls = Calls::new(alloc);
+    calls.extend_from_slice(numbers)?;
+    Ok(calls)
+}
+
+#[test]
+fn a_text_is_read_to_its_end_or_refused(rt: HostRuntime) -> Result<(), Fail> {
+    let alloc = rt.alloc();
+
+    // The text's length, the piece, the failing calls, the limit, and the refusal.
+    let cases: [(usize, usize, &[u64], usize, Option<ReadError>); 16] = [
+        (0, 1, &[], 0, None),
+        (1, 1, &[], 0, Some(ReadError::TooLong)),
+        (10, 1, &[], 10, None),
+        (10, 1, &[], 9, Some(ReadError::TooLong)),
+        (10, 16, &[], 10, None),
+        (10, 16, &[], 9, Some(ReadError::TooLong)),
+        (10, 4096, &[], 11, None),
+        (10, 4096, &[1], 10, Some(ReadError::Failed)),
+        (10, 4096, &[2], 10, Some(ReadError::Failed)),
+        (10, 4096, &[3], 10, None),
+        (10, 1, &[11], 10, Some(ReadError::Failed)),
+        (10, 1, &[12], 10, None),
+        (10, 1, &[10], 8, Some(ReadError::TooLong)),
+        (200_000, 4096, &[], 200_000, None),
+        (200_000, 4096, &[], 199_999, Some(ReadError::TooLong)),
+        (200_000, 200_000, &[5], 200_000, Some(ReadError::Failed)),
+    ];
+    for (i, (len, piece, failing, limit, refusal)) in cases.into_iter().enumerate() {
+        assert!(rt; piece >= 1 && limit < 1 << 32);
+        let text = text_of(alloc, len)?;
+        let mut source = MemSource::new(text, piece, calls_of(alloc, failing)?);
+        match read_all(alloc, &mut source, limit) {
+            Ok(read) => {
+                assert_eq!(rt; refusal, None, "case {i}");
+                assert_eq!(rt;
+                    read.as_slice(),
+                    text_of(alloc, len)?.as_slice(),
+                    "case {i}"
+                );
+            }
+            Err(error) => assert_eq!(rt; Some(error), refusal, "case {i}"),
+        }
+    }
+    Ok(())
+}
+
+#[test]
+fn a_text_is_written_to_its_end_or_to_a_failure(rt: HostRuntime) -> Result<(), Fail> {
+    let alloc = rt.alloc();
+
+    // The text's length, the piece, the room, the failing calls, and how many bytes are written.
+    let cases: [(usize, usize, usize, &[u64], usize); 12] = [
+        (0, 1, 0, &[1], 0),
+        (10, 1, 10, &[], 10),
+        (10, 1, 9, &[], 9),
+        (10, 16, 10, &[], 10),
+        (10, 16, 9, &[], 9),
+        (10, 4096, 0, &[], 0),
+        (17, 16, 1_048_576, &[2], 16),
+        (10, 4, 100, &[1], 0),
+        (10, 4, 100, &[3], 8),
+        (10, 4, 100, &[4], 10),
+        (200_000, 4096, 1_048_576, &[], 200_000),
+        (200_000, 4096, 1_048_576, &[3, 5], 8192),
+    ];
+    for (i, (len, piece, room, failing, written)) in cases.into_iter().enumerate() {
+        assert!(rt; piece >= 1 && written <= len);
+        let text = text_of(alloc, len)?;
+        let mut sink = MemSink::new(alloc, piece, room, calls_of(alloc, failing)?)?;
+        let answer = match write_all(&mut sink, text.as_slice()) {
+            Ok(()) => len,
+            Err(stop) => stop.written,
+        };
+        assert_eq!(rt; answer, written, "case {i}");
+        assert_eq!(rt;
+            sink.taken(),
+            &text_of(alloc, written)?.as_slice(),
+            "case {i}"
+        );
+    }
+    Ok(())
+}
+
+/// Input and output that break after some bytes.
+struct Broken {
+    good: usize,
+}
+
+impl Read for Broken {
+    fn read(&mut self, buf: &mut [u8]) -> io::Result<usize> {
+        Err(io::Error::from(ErrorKind::BrokenPipe))
+    }
+}
+
+#[test]
+fn the_standard_streams_are_a_source_and_a_sink(rt: HostRuntime) -> Result<(), Fail> {
+    let mut sink = StdSink::new(&rt);
+    assert_eq!(rt; sink.write(b""), Ok(0));
+    let _source = StdSource::new(&rt);
+    Ok(())
+}

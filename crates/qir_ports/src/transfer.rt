@@ -1,6 +1,6 @@
 //! Reading and writing whole texts.
-ghost use Rattle.std.specs.Prelude.{◌≡◌, ◌+◌, ◌^◌, ◌<◌, ◌≤◌, [], length, take, vec_len, IfOk, OnOk, IfErr};
-ghost use Rattle.qir_ports.specs.Known.{Rose, Gives, Takes, GivesAll, GivesTooMany, GivesUpTo};
+ghost use Rattle.std.specs.Prelude.{◌≡◌, ◌+◌, ◌^◌, ◌<◌, ◌≤◌, [], length, take, vec_len, IfOk, OnOk, OnErr, IfErr};
+ghost use Rattle.qir_ports.specs.Known.{Rose, Gives, Takes, IsAtEnd, GivesAll, GivesTooMany, GivesUpTo};
 ghost use Rattle.qir_ports.specs.declared.transfer.ReadError.TheVariants as error;
 
 use crate::port::{Failed, Sink, Source};
@@ -12,7 +12,7 @@ use thiserror::Error;
 const PIECE: usize = 65536;
 
 /// Why no text was read.
-#[derive(Debug, Drop, Error)]
+#[derive(Clone, Copy, Debug, PartialEq, Eq, Hash, Error)]
 pub enum ReadError {
     /// A read failed.
     #[error("reading failed")]
@@ -68,13 +68,27 @@ pub fn read_all<S: Source>(alloc: Global, s: &mut S, limit: usize) -> Result<Byt
     let mut text = Bytes::new(alloc);
     while text.len() <= limit {
         let want = buffer.len().min(limit + 1 - text.len());
-        let n = s.read(&mut buffer[..want])?;
-        if n == 0 {
+        let piece = next_piece(s, &mut buffer[..want])?;
+        if piece.is_empty() {
             return Ok(text);
         }
-        text.extend_from_slice(&buffer[..n])?;
+        text.extend_from_slice(piece)?;
     }
     Err(ReadError::TooLong)
+}
+
+/// The bytes that one call of `s` gives, which stand in `buffer`.
+fn next_piece<'a, S: Source>(s: &mut S, buffer: &'a mut [u8]) -> Result<&'a [u8], Failed>
+    ensures within { IfOk result (λ piece. length piece.now ≤ length buffer.entry.now) }
+    ensures gives { IfOk result (λ piece. Gives (S.left s.old) piece.now (S.left s.new)) }
+    ensures none_at_end { IfOk result (λ piece. piece.now ≡ [] → 0 < length buffer.entry.now
+        → IsAtEnd (S.left s.old)) }
+    ensures counts { OnErr result (Rose (S.faults s.old) (S.faults s.new)) }
+    ensures keeps { OnErr result (S.left s.new ≡ S.left s.old) }
+    ensures later { S.faults s.old ≤ S.faults s.new }
+{
+    let n = s.read(buffer)?;
+    Ok(&buffer[..n])
 }
 
 /// The buffer that is read into.
@@ -90,7 +104,7 @@ fn zeros(alloc: Global) -> Result<Vec<u8>, Memory>
 /// they are not all.
 pub fn write_all<K: Sink>(k: &mut K, bytes: &[u8]) -> Result<(), WriteStop>
     ensures ok { OnOk result (Takes (K.taken k.old) bytes.now (K.taken k.new)) }
-    ensures failed { IfErr result (λ stop. Rose (K.faults k.old) (K.faults k.new)) }
+    ensures failed { OnErr result (Rose (K.faults k.old) (K.faults k.new)) }
     ensures written { IfErr result (λ stop. Takes (K.taken k.old) (take stop.written bytes.now) (K.taken k.new)) }
     ensures not_all { IfErr result (λ stop. stop.written < length bytes.now) }
     ensures empty { bytes.now ≡ [] → k.new ≡ k.old }

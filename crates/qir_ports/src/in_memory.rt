@@ -1,6 +1,6 @@
 //! A source and a sink in memory, which tell their bytes and can be told to fail.
-ghost use Rattle.std.specs.Prelude.{◌≡◌, ◌+◌, ◌-◌, ◌≤◌, ◌++◌, [], ◌&&◌, ◌||◌, ◌==◌, not, length, take, drop, min, is_err, Some, IfOk, OnErr, OnOk};
-ghost use Rattle.qir_ports.specs.Held.{one_more, is_numbered};
+ghost use Rattle.std.specs.Prelude.{◌≡◌, ◌+◌, ◌-◌, ◌<◌, ◌≤◌, ◌++◌, [], ◌&&◌, ◌||◌, ◌==◌, not, length, take, drop, min, is_err, Some, IfOk, OnErr, OnOk};
+ghost use Rattle.qir_ports.specs.InMemory.{one_more, next_fails};
 
 use crate::port::{Failed, Sink, Source};
 use ir_values::{Bytes, Memory, Room, Seq};
@@ -26,9 +26,9 @@ pub struct MemSource {
 
 impl Model for MemSource {
     ghost use Rattle.std.specs.Prelude.{◌≤◌, drop, length};
-    ghost use Rattle.qir_ports.specs.Held.{Text};
+    ghost use Rattle.qir_ports.specs.InMemory.{SourceState};
 
-    ghost Value = { Text };
+    ghost Value = { SourceState };
 
     ghost view = { λ s. record { rest = drop s.at s.text; piece = s.piece; failing = s.failing; calls = s.calls; failures = s.failures } };
 
@@ -62,15 +62,16 @@ impl Source for MemSource {
     /// stays as it was. It fails exactly where the call has a number that `failing` lists, and a call
     /// after number `u64::MAX` has none.
     fn read(&mut self, buf: &mut [u8]) -> Result<usize, Failed>
-        ensures within { IfOk result (λ n. n ≤ length buf.old) }
-        ensures fails { is_err result ≡ is_numbered self.old.failing self.old.calls }
+        ensures fails { is_err result ≡ next_fails self.old.failing self.old.calls }
         ensures count { IfOk result (λ n. n ≡ min (length buf.old) (min self.old.piece (length self.old.rest))) }
         ensures given { IfOk result (λ n. buf.new ≡ take n self.old.rest ++ drop n buf.old) }
         ensures ok { IfOk result (λ n. self.new ≡ record self.old { rest = drop n self.old.rest; calls = one_more self.old.calls }) }
         ensures err { OnErr result (self.new ≡ record self.old { calls = one_more self.old.calls; failures = one_more self.old.failures }) }
         ensures unwritten { OnErr result (buf.new ≡ buf.old) }
+        ensures none_at_end { IfOk result (λ n. n ≡ 0 → 0 < length buf.old → self.old.rest ≡ []) }
+        ensures later { self.old.failures ≤ self.new.failures }
     {
-        let fails = is_listed(self.failing.as_slice(), self.calls);
+        let fails = next_fails(self.failing.as_slice(), self.calls);
         self.calls = self.calls.saturating_add(1);
         if fails {
             self.failures = self.failures.saturating_add(1);
@@ -100,11 +101,11 @@ pub struct MemSink {
 
 impl Model for MemSink {
     ghost use Rattle.std.specs.Prelude.{◌+◌, ◌≤◌, length};
-    ghost use Rattle.qir_ports.specs.Held.{Page};
+    ghost use Rattle.qir_ports.specs.InMemory.{SinkState};
 
-    ghost Value = { Page };
+    ghost Value = { SinkState };
 
-    ghost view = { λ k. record { bytes = k.kept.items; piece = k.piece; room = k.room; failing = k.failing; calls = k.calls; failures = k.failures } };
+    ghost view = { λ k. record { taken = k.kept.items; piece = k.piece; room = k.room; failing = k.failing; calls = k.calls; failures = k.failures } };
 
     ghost invariant = { λ k. (1 ≤ k.piece) × (length k.kept.items ≤ k.room) × (k.room ≤ length k.kept.items + k.kept.spare) };
 }
@@ -114,7 +115,7 @@ impl MemSink {
     /// numbers fail. [`Memory`] comes where there is none for `room` bytes.
     pub fn new(alloc: Global, piece: usize, room: usize, failing: Calls) -> Result<MemSink, Memory>
         requires { 1 ≤ piece }
-        ensures { IfOk result (λ k. k ≡ record { bytes = []; piece = piece; room = room; failing = failing; calls = 0; failures = 0 }) }
+        ensures { IfOk result (λ k. k ≡ record { taken = []; piece = piece; room = room; failing = failing; calls = 0; failures = 0 }) }
     {
         let mut kept = Room::new(alloc);
         kept.reserve(room)?;
@@ -130,14 +131,14 @@ impl MemSink {
 
     /// The bytes taken.
     pub fn taken(&self) -> &[u8]
-        ensures { result.now ≡ self.now.bytes }
+        ensures { result.now ≡ self.now.taken }
     {
         self.kept.as_slice()
     }
 }
 
 impl Sink for MemSink {
-    ghost taken = { λ k. Some k.bytes };
+    ghost taken = { λ k. Some k.taken };
 
     ghost faults = { λ k. k.failures };
 
@@ -146,12 +147,14 @@ impl Sink for MemSink {
     /// room is left. Empty `bytes` are a call too, at which nothing is taken.
     fn write(&mut self, bytes: &[u8]) -> Result<usize, Failed>
         ensures fails { is_err result ≡ not (length bytes.now == 0)
-            && (is_numbered self.old.failing self.old.calls || (length self.old.bytes == self.old.room)) }
-        ensures count { IfOk result (λ n. n ≡ min (length bytes.now) (min self.old.piece (self.old.room - length self.old.bytes))) }
-        ensures ok { IfOk result (λ n. self.new ≡ record self.old { bytes = self.old.bytes ++ take n bytes.now; calls = one_more self.old.calls }) }
+            && (next_fails self.old.failing self.old.calls || (length self.old.taken == self.old.room)) }
+        ensures count { IfOk result (λ n. n ≡ min (length bytes.now) (min self.old.piece (self.old.room - length self.old.taken))) }
+        ensures ok { IfOk result (λ n. self.new ≡ record self.old { taken = self.old.taken ++ take n bytes.now; calls = one_more self.old.calls }) }
         ensures err { OnErr result (self.new ≡ record self.old { calls = one_more self.old.calls; failures = one_more self.old.failures }) }
+        ensures some { IfOk result (λ n. 0 < length bytes.now → 0 < n) }
+        ensures later { self.old.failures ≤ self.new.failures }
     {
-        let fails = is_listed(self.failing.as_slice(), self.calls);
+        let fails = next_fails(self.failing.as_slice(), self.calls);
         self.calls = self.calls.saturating_add(1);
         let room = self.room - self.kept.as_slice().len();
         if !bytes.is_empty() && (fails || room == 0) {
@@ -165,8 +168,8 @@ impl Sink for MemSink {
 }
 
 /// Whether `failing` numbers the call after `calls` others.
-fn is_listed(failing: &[u64], calls: u64) -> bool
-    ensures { result ≡ is_numbered failing.now calls }
+fn next_fails(failing: &[u64], calls: u64) -> bool
+    ensures { result ≡ next_fails failing.now calls }
 {
     calls < u64::MAX && failing.contains(&(calls + 1))
 }

@@ -3,7 +3,7 @@
 ghost use Rattle.std.specs.Prelude.{◌≡◌, None};
 
 use crate::port::{Failed, Sink, Source};
-use std::io::{BufRead, Read};
+use std::io::Read;
 use std::marker::Model;
 
 /// Standard input, or another reader. Contracts see its count of faults alone.
@@ -21,15 +21,12 @@ impl<R> Model for StdSource<R> {
     ghost view = { λ s. s.faults };
 }
 
-impl<R: BufRead + Drop> StdSource<R> {
-    /// The input of the runtime, with no fault so far.
-    pub fn new<I: Input<Reader = R>>(rt: &I) -> StdSource<R>
+impl<R: Read> StdSource<R> {
+    /// The input that `reader` reads, as a runtime's `reader()`, with no fault so far.
+    pub fn new(reader: R) -> StdSource<R>
         ensures { result ≡ 0 }
     {
-        StdSource {
-            reader: rt.reader(),
-            faults: 0,
-        }
+        StdSource { reader, faults: 0 }
     }
 }
 
@@ -66,14 +63,11 @@ impl<'a, P> Model for StdSink<'a, P> {
 }
 
 impl<'a, P: Print> StdSink<'a, P> {
-    /// The output of the runtime, with no fault so far.
-    pub fn new(rt: &'a P) -> StdSink<'a, P>
+    /// The output that `printer` prints, as a runtime, with no fault so far.
+    pub fn new(printer: &'a P) -> StdSink<'a, P>
         ensures { result ≡ 0 }
     {
-        StdSink {
-            printer: rt,
-            faults: 0,
-        }
+        StdSink { printer, faults: 0 }
     }
 }
 

@@ -1,9 +1,9 @@
 use super::*;
 use ir_values::{Bytes, Memory};
-use std::alloc::{Allocator, Global};
+use std::alloc::Global;
 use std::fmt::Display;
 use std::io;
-use std::io::{BufRead, ErrorKind, Lines, Read};
+use std::io::{ErrorKind, Read};
 use std::test::Fail;
 
 fn text_of(alloc: Global, len: usize) -> Result<Bytes, Memory> {
@@ -92,28 +92,69 @@ fn a_text_is_written_to_its_end_or_to_a_failure(rt: HostRuntime) -> Result<(), F
         assert_eq!(rt; answer, written, "case {i}");
         assert_eq!(rt;
             sink.taken(),
-            &text_of(alloc, written)?.as_slice(),
+            text_of(alloc, written)?.as_slice(),
             "case {i}"
         );
     }
     Ok(())
 }
 
-/// Input and output that break after some bytes.
+/// Reads as many bytes as it holds, and fails then. Prints nothing.
+#[derive(Drop)]
 struct Broken {
     good: usize,
 }
 
 impl Read for Broken {
     fn read(&mut self, buf: &mut [u8]) -> io::Result<usize> {
+        let n = self.good.min(buf.len());
+        if n == 0 {
+            return Err(io::Error::from(ErrorKind::BrokenPipe));
+        }
+        self.good -= n;
+        Ok(n)
+    }
+}
+
+impl Print for Broken {
+    fn print<D: Display + Drop>(&self, _value: D) -> io::Result<()> {
         Err(io::Error::from(ErrorKind::BrokenPipe))
+    }
+
+    fn println<D: Display + Drop>(&self, _value: D) -> io::Result<()> {
+        Err(io::Error::from(ErrorKind::BrokenPipe))
+    }
+
+    fn write_all(&self, _bytes: &[u8]) -> io::Result<()> {
+        Err(io::Error::from(ErrorKind::BrokenPipe))
+    }
+
+    fn write_some(&self, bytes: &[u8]) -> io::Result<usize> {
+        Ok(self.good.min(bytes.len()))
     }
 }
 
 #[test]
-fn the_standard_streams_are_a_source_and_a_sink(rt: HostRuntime) -> Result<(), Fail> {
-    let mut sink = StdSink::new(&rt);
+fn a_fault_of_a_stream_is_a_failure(rt: HostRuntime) -> Result<(), Fail> {
+    let mut source = StdSource::new(Broken { good: 3 });
+    let mut buffer = [0u8; 2];
+    assert_eq!(rt; source.read(&mut buffer), Ok(2));
+    assert_eq!(rt; source.read(&mut buffer), Ok(1));
+    assert_eq!(rt; source.read(&mut buffer), Err(Failed));
+    let printer = Broken { good: 3 };
+    let mut sink = StdSink::new(&printer);
+    assert_eq!(rt; sink.write(b"four"), Ok(3));
+    let printer = Broken { good: 0 };
+    let mut sink = StdSink::new(&printer);
+    assert_eq!(rt; sink.write(b"four"), Err(Failed));
     assert_eq!(rt; sink.write(b""), Ok(0));
-    let _source = StdSource::new(&rt);
+    Ok(())
+}
+
+#[test]
+fn the_standard_streams_are_a_source_and_a_sink(rt: HostRuntime) -> Result<(), Fail> {
+    let _source = StdSource::new(rt.reader());
+    let mut sink = StdSink::new(&rt);
+    assert_eq!(rt; write_all(&mut sink, b""), Ok(()));
     Ok(())
 }

@@ -1,1 +1,5 @@
+pub mod Calls
 mod Worked
+pub mod Numbers
+pub mod WholeText
+pub mod Writing

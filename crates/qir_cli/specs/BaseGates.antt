@@ -33,15 +33,18 @@ abbrev pub attribute_value : List ℕ → List Attr → List ℕ
 attribute_value key [] = []
 attribute_value key (a ∷ attrs) = if same_text a.key key then some_value a.value else attribute_value key attrs
 
-abbrev qubits_of_main : Option Function → ℕ
-qubits_of_main None = 0
-qubits_of_main (Some f) = digits_value 10 (attribute_value (codes "required_num_qubits") f.attrs)
+abbrev text_of_main : Option Function → List ℕ
+text_of_main None = []
+text_of_main (Some f) = attribute_value (codes "required_num_qubits") f.attrs
+
+abbrev pub required_qubits_text : Module → List ℕ
+required_qubits_text m = text_of_main (main_of m)
 
 -- the required number of qubits
 abbrev pub own_qubits : Module → ℕ
-own_qubits m = qubits_of_main (main_of m)
+own_qubits m = digits_value 10 (required_qubits_text m)
 
-abbrev locals_of_main : Option Function → ℕ
+abbrev pub locals_of_main : Option Function → ℕ
 locals_of_main None = 0
 locals_of_main (Some f) = length f.locals
 

@@ -77,7 +77,7 @@ base_lines m f =
     ++ flat_map (λ g. declare_line g ∷ [] ∷ []) (used_gates m)
     ++ attributes_line (own_qubits m + allocations m) ∷ flag_lines
 
-abbrev text_of_main : Module → Option Function → List ℕ
+abbrev pub text_of_main : Module → Option Function → List ℕ
 text_of_main m None = []
 text_of_main m (Some f) = lines_text (base_lines m f)
 

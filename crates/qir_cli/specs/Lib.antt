@@ -1,3 +1,4 @@
+pub mod BaseCode
 pub mod BaseGates
 pub mod BaseText
 pub mod BaseTree

@@ -1,5 +1,5 @@
 -- The states of a source and of a sink in memory.
-use Rattle.std.specs.Prelude.{ℕ, ◌+◌, ◌-◌, ◌^◌, ◌==◌, ◌&&◌, Bool, nat_lt, min, List}
+use Rattle.std.specs.Prelude.{ℕ, ◌+◌, ◌-◌, ◌^◌, ◌==◌, ◌&&◌, Bool, nat_lt, List}
 use Rattle.std.specs.List.{list_any}
 
 pub record SourceState : Type 0 where
@@ -16,10 +16,6 @@ pub record SinkState : Type 0 where
   pub failing : List ℕ  -- the numbers of the calls that fail
   pub calls : ℕ  -- the calls so far, up to the last value of a u64
   pub failures : ℕ  -- those of them that failed, up to the same value
-
--- a count that stands still at the last value of a u64
-abbrev pub one_more : ℕ → ℕ
-one_more count = min (count + 1) (2 ^ 64 - 1)
 
 -- whether the list numbers, from 1, the call after so many. A call after number 2^64 - 1 has no number
 abbrev pub next_fails : List ℕ → ℕ → Bool

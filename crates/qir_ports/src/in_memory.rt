@@ -1,6 +1,7 @@
 //! A source and a sink in memory, which tell their bytes and can be told to fail.
 ghost use Rattle.std.specs.Prelude.{◌≡◌, ◌+◌, ◌-◌, ◌<◌, ◌≤◌, ◌++◌, [], ◌&&◌, ◌||◌, ◌==◌, not, length, take, drop, min, is_err, Some, IfOk, OnErr, OnOk};
-ghost use Rattle.qir_ports.specs.InMemory.{one_more, next_fails};
+ghost use Rattle.qir_ports.specs.InMemory.{next_fails};
+ghost use Rattle.qir_ports.specs.Known.{one_more};
 
 use crate::port::{Failed, Sink, Source};
 use ir_values::{Bytes, Memory, Room, Seq};
@@ -30,7 +31,13 @@ impl Model for MemSource {
 
     ghost Value = { SourceState };
 
-    ghost view = { λ s. record { rest = drop s.at s.text; piece = s.piece; failing = s.failing; calls = s.calls; failures = s.failures } };
+    ghost view = { λ s. record {
+      rest = drop s.at s.text;
+      piece = s.piece;
+      failing = s.failing;
+      calls = s.calls;
+      failures = s.failures;
+    } };
 
     ghost invariant = { λ s. (s.at ≤ length s.text) × (1 ≤ s.piece) };
 }
@@ -40,7 +47,13 @@ impl MemSource {
     /// `failing` numbers fail, and no other. It takes no memory.
     pub fn new(text: Bytes, piece: usize, failing: Calls) -> MemSource
         requires { 1 ≤ piece }
-        ensures { result ≡ record { rest = text; piece = piece; failing = failing; calls = 0; failures = 0 } }
+        ensures { result ≡ record {
+          rest = text;
+          piece = piece;
+          failing = failing;
+          calls = 0;
+          failures = 0;
+        } }
     {
         MemSource {
             text,
@@ -63,12 +76,19 @@ impl Source for MemSource {
     /// after number `u64::MAX` has none.
     fn read(&mut self, buf: &mut [u8]) -> Result<usize, Failed>
         ensures fails { is_err result ≡ next_fails self.old.failing self.old.calls }
-        ensures count { IfOk result (λ n. n ≡ min (length buf.old) (min self.old.piece (length self.old.rest))) }
+        ensures count { IfOk result (λ n.
+            n ≡ min (length buf.old) (min self.old.piece (length self.old.rest))) }
         ensures given { IfOk result (λ n. buf.new ≡ take n self.old.rest ++ drop n buf.old) }
-        ensures ok { IfOk result (λ n. self.new ≡ record self.old { rest = drop n self.old.rest; calls = one_more self.old.calls }) }
-        ensures err { OnErr result (self.new ≡ record self.old { calls = one_more self.old.calls; failures = one_more self.old.failures }) }
+        ensures ok { IfOk result (λ n. self.new
+            ≡ record self.old { rest = drop n self.old.rest; calls = one_more self.old.calls }) }
+        ensures err { OnErr result (self.new
+            ≡ record self.old {
+              calls = one_more self.old.calls;
+              failures = one_more self.old.failures;
+            }) }
         ensures unwritten { OnErr result (buf.new ≡ buf.old) }
-        ensures none_at_end { IfOk result (λ n. n ≡ 0 → 0 < length buf.old → self.old.rest ≡ []) }
+        ensures none_at_end { IfOk result (λ n.
+            n ≡ 0 → 0 < length buf.old → self.old.rest ≡ []) }
         ensures later { self.old.failures ≤ self.new.failures }
     {
         let fails = next_fails(self.failing.as_slice(), self.calls);
@@ -105,9 +125,17 @@ impl Model for MemSink {
 
     ghost Value = { SinkState };
 
-    ghost view = { λ k. record { taken = k.kept.items; piece = k.piece; room = k.room; failing = k.failing; calls = k.calls; failures = k.failures } };
+    ghost view = { λ k. record {
+      taken = k.kept.items;
+      piece = k.piece;
+      room = k.room;
+      failing = k.failing;
+      calls = k.calls;
+      failures = k.failures;
+    } };
 
-    ghost invariant = { λ k. (1 ≤ k.piece) × (length k.kept.items ≤ k.room) × (k.room ≤ length k.kept.items + k.kept.spare) };
+    ghost invariant = { λ k. (1 ≤ k.piece) × (length k.kept.items ≤ k.room)
+        × (k.room ≤ length k.kept.items + k.kept.spare) };
 }
 
 impl MemSink {
@@ -115,7 +143,14 @@ impl MemSink {
     /// numbers fail. [`Memory`] comes where there is none for `room` bytes.
     pub fn new(alloc: Global, piece: usize, room: usize, failing: Calls) -> Result<MemSink, Memory>
         requires { 1 ≤ piece }
-        ensures { IfOk result (λ k. k ≡ record { taken = []; piece = piece; room = room; failing = failing; calls = 0; failures = 0 }) }
+        ensures { IfOk result (λ k. k ≡ record {
+          taken = [];
+          piece = piece;
+          room = room;
+          failing = failing;
+          calls = 0;
+          failures = 0;
+        }) }
     {
         let mut kept = Room::new(alloc);
         kept.reserve(room)?;
@@ -147,10 +182,19 @@ impl Sink for MemSink {
     /// room is left. Empty `bytes` are a call too, at which nothing is taken.
     fn write(&mut self, bytes: &[u8]) -> Result<usize, Failed>
         ensures fails { is_err result ≡ not (length bytes.now == 0)
-            && (next_fails self.old.failing self.old.calls || (length self.old.taken == self.old.room)) }
-        ensures count { IfOk result (λ n. n ≡ min (length bytes.now) (min self.old.piece (self.old.room - length self.old.taken))) }
-        ensures ok { IfOk result (λ n. self.new ≡ record self.old { taken = self.old.taken ++ take n bytes.now; calls = one_more self.old.calls }) }
-        ensures err { OnErr result (self.new ≡ record self.old { calls = one_more self.old.calls; failures = one_more self.old.failures }) }
+            && (next_fails self.old.failing self.old.calls
+            || (length self.old.taken == self.old.room)) }
+        ensures count { IfOk result (λ n. n
+            ≡ min (length bytes.now) (min self.old.piece (self.old.room - length self.old.taken))) }
+        ensures ok { IfOk result (λ n. self.new ≡ record self.old {
+          taken = self.old.taken ++ take n bytes.now;
+          calls = one_more self.old.calls;
+        }) }
+        ensures err { OnErr result (self.new
+            ≡ record self.old {
+              calls = one_more self.old.calls;
+              failures = one_more self.old.failures;
+            }) }
         ensures some { IfOk result (λ n. 0 < length bytes.now → 0 < n) }
         ensures later { self.old.failures ≤ self.new.failures }
     {

@@ -27,7 +27,8 @@ pub trait Source {
     fn read(&mut self, buf: &mut [u8]) -> Result<usize, Failed>
         ensures within { IfOk result (λ n. n ≤ length buf.old) }
         ensures gives { IfOk result (λ n. Gives (left self.old) (take n buf.new) (left self.new)) }
-        ensures none_at_end { IfOk result (λ n. n ≡ 0 → 0 < length buf.old → IsAtEnd (left self.old)) }
+        ensures none_at_end { IfOk result (λ n.
+            n ≡ 0 → 0 < length buf.old → IsAtEnd (left self.old)) }
         ensures counts { OnErr result (Rose (faults self.old) (faults self.new)) }
         ensures keeps { OnErr result (left self.new ≡ left self.old) }
         ensures later { faults self.old ≤ faults self.new };

@@ -1,6 +1,7 @@
 //! The standard streams as a source and a sink. They tell nothing of their bytes: what a terminal, a
 //! file or a pipe gives or takes stands outside every contract.
-ghost use Rattle.std.specs.Prelude.{◌≡◌, None};
+ghost use Rattle.std.specs.Prelude.{◌≡◌, ◌<◌, ◌≤◌, [], length, None, IsOk, IfOk, OnOk, OnErr};
+ghost use Rattle.qir_ports.specs.Known.{one_more};
 
 use crate::port::{Failed, Sink, Source};
 use std::io::Read;
@@ -35,8 +36,13 @@ impl<R: Read> Source for StdSource<R> {
 
     ghost faults = { λ s. s };
 
-    /// Reads once. Every error of the reader is a fault.
-    fn read(&mut self, buf: &mut [u8]) -> Result<usize, Failed> {
+    /// Reads once. Every error of the reader is a fault, and nothing else is.
+    fn read(&mut self, buf: &mut [u8]) -> Result<usize, Failed>
+        ensures within { IfOk result (λ n. n ≤ length buf.old) }
+        ensures ok { OnOk result (self.new ≡ self.old) }
+        ensures err { OnErr result (self.new ≡ one_more self.old) }
+        ensures later { self.old ≤ self.new }
+    {
         match self.reader.read(buf) {
             Ok(n) => Ok(n),
             Err(_) => {
@@ -49,12 +55,12 @@ impl<R: Read> Source for StdSource<R> {
 
 /// Standard output, or what else prints. Contracts see its count of faults alone.
 #[derive(Drop)]
-pub struct StdSink<'a, P> {
-    printer: &'a P,
+pub struct StdSink<P> {
+    printer: P,
     faults: u64,
 }
 
-impl<'a, P> Model for StdSink<'a, P> {
+impl<P> Model for StdSink<P> {
     ghost use Rattle.std.specs.Prelude.{ℕ};
 
     ghost Value = { ℕ };
@@ -62,23 +68,30 @@ impl<'a, P> Model for StdSink<'a, P> {
     ghost view = { λ k. k.faults };
 }
 
-impl<'a, P: Print> StdSink<'a, P> {
-    /// The output that `printer` prints, as a runtime, with no fault so far.
-    pub fn new(printer: &'a P) -> StdSink<'a, P>
+impl<P: Print> StdSink<P> {
+    /// The output that `printer` prints, as a `&` to a runtime, with no fault so far.
+    pub fn new(printer: P) -> StdSink<P>
         ensures { result ≡ 0 }
     {
         StdSink { printer, faults: 0 }
     }
 }
 
-impl<P: Print> Sink for StdSink<'_, P> {
+impl<P: Print> Sink for StdSink<P> {
     ghost taken = { λ _. None };
 
     ghost faults = { λ k. k };
 
-    /// Writes once, past every buffer. Every error of the printer is a fault, and so is a write that
-    /// takes nothing. Empty `bytes` are not written at all.
-    fn write(&mut self, bytes: &[u8]) -> Result<usize, Failed> {
+    /// Writes once, and keeps nothing back. Every error of the printer is a fault, so is a write that
+    /// takes nothing, and nothing else is. Empty `bytes` are not written at all.
+    fn write(&mut self, bytes: &[u8]) -> Result<usize, Failed>
+        ensures within { IfOk result (λ n. n ≤ length bytes.now) }
+        ensures some { IfOk result (λ n. 0 < length bytes.now → 0 < n) }
+        ensures ok { OnOk result (self.new ≡ self.old) }
+        ensures err { OnErr result (self.new ≡ one_more self.old) }
+        ensures empty { bytes.now ≡ [] → IsOk result }
+        ensures later { self.old ≤ self.new }
+    {
         if bytes.is_empty() {
             return Ok(0);
         }

@@ -141,11 +141,9 @@ fn a_fault_of_a_stream_is_a_failure(rt: HostRuntime) -> Result<(), Fail> {
     assert_eq!(rt; source.read(&mut buffer), Ok(2));
     assert_eq!(rt; source.read(&mut buffer), Ok(1));
     assert_eq!(rt; source.read(&mut buffer), Err(Failed));
-    let printer = Broken { good: 3 };
-    let mut sink = StdSink::new(&printer);
+    let mut sink = StdSink::new(Broken { good: 3 });
     assert_eq!(rt; sink.write(b"four"), Ok(3));
-    let printer = Broken { good: 0 };
-    let mut sink = StdSink::new(&printer);
+    let mut sink = StdSink::new(Broken { good: 0 });
     assert_eq!(rt; sink.write(b"four"), Err(Failed));
     assert_eq!(rt; sink.write(b""), Ok(0));
     Ok(())

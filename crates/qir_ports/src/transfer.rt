@@ -58,10 +58,13 @@ pub fn read_all<S: Source>(alloc: Global, s: &mut S, limit: usize) -> Result<Byt
     requires { limit < 2 ^ 32 }
     ensures ok { IfOk result (λ text. GivesAll (S.left s.old) text (S.left s.new)) }
     ensures within { IfOk result (λ text. length text ≤ limit) }
-    ensures too_long { result ≡ Err ReadError.TooLong → GivesTooMany limit (S.left s.old) (S.left s.new) }
+    ensures too_long { result ≡ Err ReadError.TooLong
+        → GivesTooMany limit (S.left s.old) (S.left s.new) }
     ensures failed { result ≡ Err ReadError.Failed → Rose (S.faults s.old) (S.faults s.new) }
-    ensures until_failed { result ≡ Err ReadError.Failed → GivesUpTo limit (S.left s.old) (S.left s.new) }
-    ensures until_memory { result ≡ Err ReadError.Memory → GivesUpTo (limit + 1) (S.left s.old) (S.left s.new) }
+    ensures until_failed { result ≡ Err ReadError.Failed
+        → GivesUpTo limit (S.left s.old) (S.left s.new) }
+    ensures until_memory { result ≡ Err ReadError.Memory
+        → GivesUpTo (limit + 1) (S.left s.old) (S.left s.new) }
     ensures later { S.faults s.old ≤ S.faults s.new }
 {
     let mut buffer = zeros(alloc)?;
@@ -105,7 +108,8 @@ fn zeros(alloc: Global) -> Result<Vec<u8>, Memory>
 pub fn write_all<K: Sink>(k: &mut K, bytes: &[u8]) -> Result<(), WriteStop>
     ensures ok { OnOk result (Takes (K.taken k.old) bytes.now (K.taken k.new)) }
     ensures failed { OnErr result (Rose (K.faults k.old) (K.faults k.new)) }
-    ensures written { IfErr result (λ stop. Takes (K.taken k.old) (take stop.written bytes.now) (K.taken k.new)) }
+    ensures written { IfErr result (λ stop.
+        Takes (K.taken k.old) (take stop.written bytes.now) (K.taken k.new)) }
     ensures not_all { IfErr result (λ stop. stop.written < length bytes.now) }
     ensures empty { bytes.now ≡ [] → k.new ≡ k.old }
     ensures later { K.faults k.old ≤ K.faults k.new }

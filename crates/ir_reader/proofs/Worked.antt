@@ -1,11 +1,12 @@
 -- The worked text of two allocations, and its tree's calls.
-use Rattle.std.proofs.Common.{◌≡◌, refl, false, List, [], ◌∷◌, ◌++◌, true}
+use Rattle.std.proofs.Common.{◌≡◌, refl, List, [], ◌∷◌, ◌++◌, true, false}
 use Rattle.std.specs.Prelude.{codes}
 use Rattle.ir_reader.specs.declared.line.Gate.TheVariants.{H}
 use Rattle.ir_reader.specs.declared.line.Line.{Line}
 use Rattle.ir_reader.specs.declared.line.Line.TheVariants.{Allocate, Release, Apply, Cnot}
 use Rattle.ir_reader.specs.declared.line.Qubit.TheVariants.{Named, Numbered}
-use Rattle.ir_reader.specs.FirstText.{body_text, lines_fit, lines_text}
+use Rattle.ir_reader.specs.FirstText.{body_text, lines_fit, lines_text, tail_text}
+use Rattle.ir_reader.specs.FirstTree.{places_of}
 
 unfoldable two_allocations : List Line
 two_allocations =

@@ -1,3 +1,4 @@
 pub mod First
 pub mod FirstText
 pub mod FirstTree
+pub mod Parses

@@ -3,5 +3,9 @@
 #![tactic(auto)]
 
 mod line;
+mod one_block;
+mod parsed;
 
 pub use line::{Gate, Line, Qubit};
+pub use one_block::read;
+pub use parsed::{Parsed, ReadCode, ReadStop};

@@ -1,4 +1,6 @@
 pub mod First
 pub mod FirstText
 pub mod FirstTree
+pub mod Heads
+pub mod Lines
 pub mod Parses

@@ -3,8 +3,10 @@
 #![tactic(auto)]
 
 mod line;
+mod lines;
 mod one_block;
 mod parsed;
+mod scan;
 
 pub use line::{Gate, Line, Qubit};
 pub use one_block::read;

@@ -1,0 +1,31 @@
+use Rattle.std.proofs.Common.{rules, ◌≡◌, ℕ, List, [], ◌∷◌, ◌++◌, true, refl, sym, ap, ◌∙◌, subst, true≢false, append_assoc, IfOk}
+use Rattle.std.specs.Prelude.{codes, decimal}
+use Rattle.std.specs.Cmp.{unsigned_Decides}
+use Rattle.ir_reader.specs.declared.scan.Stop.TheVariants as stop
+use Rattle.ir_reader.specs.declared.line.Gate.TheVariants.{H, X, Z}
+use Rattle.ir_reader.specs.declared.line.Line.TheVariants.{Allocate, Release, Apply, Cnot}
+use Rattle.ir_reader.specs.declared.line.Qubit.TheVariants.{Named, Numbered}
+use Rattle.ir_reader.specs.FirstText.{is_name, qubit_text, line_text}
+use Rattle.ir_reader.specs.Lines as spec
+use borrow.Author.Tests.{ltb-true}
+use Rattle.ir_reader.proofs.Heads.{strip_taken, both_true}
+use Rattle.ir_reader.proofs.Fronts as front
+use Rattle.ir_reader.proofs.lines.release.Goals as goal
+
+pub returns-in_err-name-clause-complete : goal.returns-in_err-name-clause-complete
+returns-in_err-name-clause-complete c = λ l rest h e.
+    let k = front.is_release l rest c.args.text.now e in
+    let m : c.in_err-name.field-0.0 ≡ stop.Memory = c.in_err-name.ensures.complete k.0 (codes ")" ++ 10 ∷ rest) (rw k.1 at h) refl k.2 in
+    search rules
+
+pub returns-in_err-rest-clause-complete : goal.returns-in_err-rest-clause-complete
+returns-in_err-rest-clause-complete c = λ l rest h e.
+    let k = front.is_release l rest c.args.text.now e in
+    let m = c.in_ok-name.ensures.complete k.0 (codes ")" ++ 10 ∷ rest) (rw k.1 at h) refl k.2 in
+    absurd (c.in_err-rest.ensures.complete rest m.1)
+
+pub returns-clause-complete : goal.returns-clause-complete
+returns-clause-complete c = λ l rest h e.
+    let k = front.is_release l rest c.args.text.now e in
+    let m = c.in_ok-name.ensures.complete k.0 (codes ")" ++ 10 ∷ rest) (rw k.1 at h) refl k.2 in
+    (ap Release m.0 ∙ sym k.1, c.in_ok-rest.ensures.complete rest m.1)

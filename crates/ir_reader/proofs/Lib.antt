@@ -1,3 +1,5 @@
+pub mod Bodies
 pub mod Fronts
 pub mod Heads
+pub mod Scopes
 mod Worked

@@ -4,8 +4,10 @@
 
 mod line;
 mod lines;
+mod names;
 mod one_block;
 mod parsed;
+mod program;
 mod scan;
 
 pub use line::{Gate, Line, Qubit};

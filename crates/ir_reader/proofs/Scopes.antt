@@ -37,6 +37,10 @@ module _ (eq : List ℕ → List ℕ → Bool) (law : (a b : List ℕ) → Decid
     inserted_step more true t e = rw (t, sym (same d.0) ∙ t) refl
     inserted_step more false t e = rw (t, sym (same d.0) ∙ t) (ap (λ l. d ∷ l) (more (rw (sym (same d.0) ∙ t) at e)))
 
+    appended_step : (v : Bool) → (is_defined ds name ≡ false → insert_entry eq ds name v ≡ ds ++ (name, v) ∷ []) → (b : Bool) → eq name d.0 ≡ b → is_defined (d ∷ ds) name ≡ false → insert_entry eq (d ∷ ds) name v ≡ d ∷ (ds ++ (name, v) ∷ [])
+    appended_step v more true t e = absurd (true≢false (rw (sym (same d.0) ∙ t) at e))
+    appended_step v more false t e = rw t (ap (λ l. d ∷ l) (more (rw (sym (same d.0) ∙ t) at e)))
+
   pub unusable : (es : Scope) → lookup (eq name) es ≡ None → is_usable es name ≡ false
   unusable [] e = refl
   unusable (d ∷ ds) e = usable_step d ds (unusable ds) (eq name d.0) refl e
@@ -63,6 +67,10 @@ module _ (eq : List ℕ → List ℕ → Bool) (law : (a b : List ℕ) → Decid
   pub inserted : (es : Scope) → is_usable es name ≡ true → insert_entry eq es name true ≡ released es name
   inserted [] e = absurd (true≢false (sym e))
   inserted (d ∷ ds) e = inserted_step d ds (inserted ds) (eq name d.0) refl e
+
+  pub appended : (es : Scope) (v : Bool) → is_defined es name ≡ false → insert_entry eq es name v ≡ es ++ (name, v) ∷ []
+  appended [] v e = refl
+  appended (d ∷ ds) v e = appended_step d ds v (appended ds v) (eq name d.0) refl e
 
   -- `contains_key`
   pub defined_is : (es : Scope) (b : Bool) → b ≡ is_some (lookup (eq name) es) → is_defined es name ≡ b

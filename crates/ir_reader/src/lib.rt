@@ -2,6 +2,7 @@
 //! describes, and refuses every other.
 #![tactic(auto)]
 
+mod body;
 mod line;
 mod lines;
 mod names;

@@ -1,12 +1,13 @@
-use Rattle.std.proofs.Common.{◌≡◌, None, Some, true, false, not, refl, sym, ap, ◌∙◌, rules}
+use Rattle.std.proofs.Common.{◌≡◌, ◌++◌, ◌∷◌, [], None, Some, true, false, not, refl, sym, ap, ◌∙◌, rules}
 use Rattle.ir_values.specs.Equal.{equal_decides}
 use Rattle.ir_reader.specs.FirstTree.{local_id}
-use Rattle.ir_reader.proofs.Scopes.{unusable, undefined, found, number_at, inserted, defined_is}
-use Rattle.indexmap.proofs.CallerLemmas.{insert_entry-new}
+use Rattle.ir_reader.proofs.Scopes.{appended, defined_is}
 use Rattle.ir_reader.proofs.names.define.Goals as goal
 
 pub returns-then-contains_key-clause-other : goal.returns-then-contains_key-clause-other
 returns-then-contains_key-clause-other c = λ e. defined_is _ (equal_decides _) c.args.name.now c.args.names.now.entries true (sym (sym c.contains_key.ensures ∙ c.if-contains_key.true))
 
 pub returns-clause-ok : goal.returns-clause-ok
-returns-clause-ok c = ?
+returns-clause-ok c =
+    let absent = defined_is _ (equal_decides _) c.args.name.now c.args.names.now.entries false (sym (sym c.contains_key.ensures ∙ c.if-contains_key.false)) in
+    (absent, ap local_id c.len-index.ensures.len, rw c.in_ok-copy.ensures at c.in-Ok.ensures.entries ∙ appended _ (equal_decides _) c.args.name.now c.args.names.now.entries false absent)

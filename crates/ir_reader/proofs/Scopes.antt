@@ -1,5 +1,5 @@
 -- A table of names is the scope of the definitions.
-use Rattle.std.proofs.Common.{◌≡◌, ℕ, ◌+◌, Bool, true, false, cond, not, ◌==◌, if◌then◌else◌, List, [], ◌∷◌, ◌++◌, length, Option, None, Some, is_some, refl, sym, ap, ◌∙◌, true≢false, arith, position, nat_lt}
+use Rattle.std.proofs.Common.{◌≡◌, ℕ, ◌+◌, Bool, true, false, cond, not, ◌&&◌, ◌==◌, if◌then◌else◌, List, [], ◌∷◌, ◌++◌, length, Option, None, Some, is_some, refl, sym, ap, ◌∙◌, true≢false, arith, position, nat_lt}
 use Rattle.std.specs.Bool.{Decides}
 use Rattle.std.specs.Cmp.Lexicographic.{bytes_decides}
 use Rattle.std.specs.List.{position_or_len}
@@ -79,3 +79,7 @@ module _ (eq : List ℕ → List ℕ → Bool) (law : (a b : List ℕ) → Decid
       by : (o : Option Bool) → lookup (eq name) es ≡ o → is_defined es name ≡ b
       by None t = undefined es t ∙ sym (e ∙ ap is_some t)
       by (Some v) t = (found es v t).1 ∙ sym (e ∙ ap is_some t)
+
+pub no_new : (a b : Bool) → b ≡ true → (a && not b) ≡ false
+no_new true b e = rw e refl
+no_new false b e = refl

@@ -4,3 +4,4 @@ pub mod FirstTree
 pub mod Heads
 pub mod Lines
 pub mod Parses
+pub mod Parts

@@ -75,3 +75,62 @@ fn function_of(gate: Gate) -> FuncId
         Gate::Z => FuncId(9),
     }
 }
+
+/// The instruction of a line that fits behind the lines that defined these names.
+fn instruction(
+    alloc: Global,
+    qubits: u64,
+    names: &mut Names,
+    line: &Line,
+) -> Result<Inst, Stop>
+    ensures ok { IfOk result (λ i. (line_fits qubits names.old.entries line.now ≡ true) × (i ≡ inst_of names.old.entries line.now) × (names.new.entries ≡ after_line names.old.entries line.now)) }
+    ensures other { result ≡ Err Stop.Other → line_fits qubits names.old.entries line.now ≡ false }
+{
+    match line {
+        Line::Allocate(name) => {
+            let x = define(alloc, names, name)?;
+            Ok(call_allocate(alloc, x))
+        }
+        Line::Release(name) => {
+            let x = release(alloc, names, name)?;
+            Ok(call_on(alloc, FuncId(3), Operand::Local(x))?)
+        }
+        Line::Apply(gate, target) => {
+            let target = operand(qubits, names, target)?;
+            Ok(call_on(alloc, function_of(*gate), target)?)
+        }
+        Line::Cnot(control, target) => {
+            let control = operand(qubits, names, control)?;
+            let target = operand(qubits, names, target)?;
+            Ok(call_controlled(alloc, control, target)?)
+        }
+    }
+}
+
+/// The instructions of lines that fit one behind the other.
+pub(crate) fn instructions(alloc: Global, qubits: u64, mut lines: &[Line]) -> Result<Insts, Stop>
+    ensures ok { IfOk result (λ is. (lines_fit qubits [] lines.entry.now ≡ true) × (is ≡ insts_of [] lines.entry.now)) }
+    ensures other { result ≡ Err Stop.Other → lines_fit qubits [] lines.entry.now ≡ false }
+{
+    let mut names = IndexMap::new(alloc);
+    let mut insts = Seq::new(alloc);
+    while let [line, rest @ ..] = lines {
+        insts.push(instruction(alloc, qubits, &mut names, line)?)?;
+        lines = rest;
+    }
+    Ok(insts)
+}
+
+/// The locals that the lines define.
+pub(crate) fn locals(alloc: Global, mut lines: &[Line]) -> Result<Locals, Memory>
+    ensures { IfOk result (λ xs. xs ≡ map (λ n. (name.Text n, ty.Qubit)) (names_of lines.entry.now)) }
+{
+    let mut locals = Seq::new(alloc);
+    while let [line, rest @ ..] = lines {
+        if let Line::Allocate(name) = line {
+            locals.push((Name::Text(name.copy(alloc)?), Ty::Qubit))?;
+        }
+        lines = rest;
+    }
+    Ok(locals)
+}

@@ -10,6 +10,7 @@ mod one_block;
 mod parsed;
 mod program;
 mod scan;
+mod tree;
 
 pub use line::{Gate, Line, Qubit};
 pub use one_block::read;

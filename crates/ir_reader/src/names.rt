@@ -1,9 +1,9 @@
 //! The names that the lines of a body define.
-ghost use Rattle.std.specs.Prelude.{◌≡◌, ◌++◌, ◌∷◌, [], true, false, length, MatchResult, IfOk};
-ghost use Rattle.ir_reader.specs.FirstText.{is_defined, is_usable, released};
+ghost use Rattle.std.specs.Prelude.{◌≡◌, ◌++◌, ◌∷◌, [], ◌&&◌, not, true, false, length, MatchResult, IfOk};
+ghost use Rattle.ir_reader.specs.FirstText.{is_name, is_defined, is_usable, released};
 ghost use Rattle.ir_reader.specs.FirstTree.{local_id, number_of};
 
-use crate::scan::Stop;
+use crate::scan::{Stop, is_name_text};
 use indexmap::IndexMap;
 use ir_values::{Bytes, Copies, LocalId};
 use std::alloc::Global;
@@ -36,11 +36,14 @@ pub(crate) fn release(alloc: Global, names: &mut Names, name: &Bytes) -> Result<
     Ok(x)
 }
 
-/// Defines a new name, and answers its local.
+/// Defines a word that is a new name, and answers its local.
 pub(crate) fn define(alloc: Global, names: &mut Names, name: &Bytes) -> Result<LocalId, Stop>
-    ensures ok { IfOk result (λ x. (is_defined names.old.entries name.now ≡ false) × (x ≡ local_id (length names.old.entries)) × (names.new.entries ≡ names.old.entries ++ (name.now, false) ∷ [])) }
-    ensures other { result ≡ Err Stop.Other → is_defined names.old.entries name.now ≡ true }
+    ensures ok { IfOk result (λ x. (is_name name.now ≡ true) × (is_defined names.old.entries name.now ≡ false) × (x ≡ local_id (length names.old.entries)) × (names.new.entries ≡ names.old.entries ++ (name.now, false) ∷ [])) }
+    ensures other { result ≡ Err Stop.Other → (is_name name.now && not (is_defined names.old.entries name.now)) ≡ false }
 {
+    if !is_name_text(name.as_slice()) {
+        return Err(Stop::Other);
+    }
     if names.contains_key(name) {
         return Err(Stop::Other);
     }

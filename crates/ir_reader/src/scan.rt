@@ -61,7 +61,8 @@ fn are_letters(word: &[u8]) -> bool
     word.iter().all(|c| c.is_ascii_lowercase())
 }
 
-fn is_name_text(word: &[u8]) -> bool
+/// Whether a word is a name: one to eight lower-case letters, and not `entry`.
+pub(crate) fn is_name_text(word: &[u8]) -> bool
     ensures { result ≡ is_name word.now }
 {
     if word.is_empty() {
@@ -76,15 +77,12 @@ fn is_name_text(word: &[u8]) -> bool
     word != b"entry".as_slice()
 }
 
-/// The lower-case letters at the head, where they are a name.
+/// The lower-case letters at the head.
 pub(crate) fn name(alloc: Global, text: &[u8]) -> Result<(Bytes, &[u8]), Stop>
     ensures sound { IfOk result (λ r. text.now ≡ r.0 ++ r.1.now) }
     ensures complete { (n rest : List ℕ) → is_name n ≡ true → is_past is_letter rest ≡ true → text.now ≡ n ++ rest → MatchResult result (λ r. (r.0 ≡ n) × (r.1.now ≡ rest)) (λ e. e ≡ Stop.Memory) }
 {
     let (word, rest) = text.split_at(letters(text));
-    if !is_name_text(word) {
-        return Err(Stop::Other);
-    }
     let mut name = Seq::new(alloc);
     name.extend_from_slice(word)?;
     Ok((name, rest))

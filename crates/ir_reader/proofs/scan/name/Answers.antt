@@ -7,11 +7,6 @@ use Rattle.ir_reader.proofs.scan.name.Goals as goal
 pub split_at-requires : goal.split_at-requires
 split_at-requires c = rw c.letters.ensures (prefix_len-le-length is_letter c.args.text.now)
 
-pub returns-then-not-is_name_text-clause-complete : goal.returns-then-not-is_name_text-clause-complete
-returns-then-not-is_name_text-clause-complete c = λ n rest h g e.
-    let cut = cut_is is_letter c.args.text.now c.split_at.result.0.now c.split_at.result.1.now n rest c.letters.result c.letters.ensures c.split_at.ensures.front c.split_at.ensures.back (letters_of_name n h) g e in
-    absurd (true≢false (sym h ∙ rw (sym cut.0) (sym c.is_name_text.ensures) ∙ c.if-not-is_name_text.true))
-
 pub returns-clause-complete : goal.returns-clause-complete
 returns-clause-complete c = λ n rest h g e.
     let cut = cut_is is_letter c.args.text.now c.split_at.result.0.now c.split_at.result.1.now n rest c.letters.result c.letters.ensures c.split_at.ensures.front c.split_at.ensures.back (letters_of_name n h) g e in

@@ -8,6 +8,7 @@ mod lines;
 mod names;
 mod one_block;
 mod parsed;
+mod places;
 mod program;
 mod scan;
 mod tree;

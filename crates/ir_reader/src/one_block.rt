@@ -3,9 +3,26 @@ ghost use Rattle.std.specs.Prelude.{◌≡◌, ◌<◌, length, MatchResult, IfE
 ghost use Rattle.ir_reader.specs.FirstText.{Program, IsProgram, text_of};
 ghost use Rattle.ir_reader.specs.Parses.{Parses, IsTreeOf, IsRightly};
 
+use crate::body::instructions;
 use crate::parsed::{Parsed, ReadCode, ReadStop};
+use crate::places::text_places;
+use crate::program::program;
+use crate::scan::Stop;
+use crate::tree::module_tree;
 use ir_module::Place;
 use std::alloc::Global;
+
+fn parse(alloc: Global, bytes: &[u8]) -> Result<Parsed, Stop>
+    requires { length bytes.now < 4294967295 }
+    ensures parsed { IfOk result (λ parsed. Parses bytes.now parsed) }
+    ensures complete { (p : Program) → IsProgram p → bytes.now ≡ text_of p → MatchResult result (λ parsed. IsTreeOf p parsed) (λ e. e ≡ Stop.Memory) }
+{
+    let (lines, qubits) = program(alloc, bytes)?;
+    let insts = instructions(alloc, qubits, lines.as_slice())?;
+    let module = module_tree(alloc, qubits, lines.as_slice(), insts)?;
+    let places = text_places(alloc, lines.len() as u32)?;
+    Ok(Parsed { module, places })
+}
 
 /// Reads a text of one block, of fewer than 2^32 - 1 bytes, as its module with the places of its parts.
 /// Each other text is refused as [`ReadCode::FirstPath`] at line 1, column 1. [`ReadStop::Memory`] says
@@ -18,5 +35,12 @@ pub fn read(alloc: Global, bytes: &[u8]) -> Result<Parsed, ReadStop>
     ensures complete { (p : Program) → IsProgram p → bytes.now ≡ text_of p → MatchResult result (λ parsed. IsTreeOf p parsed) (λ stop. stop ≡ ReadStop.Memory) }
     ensures refused { IfErr result (λ stop. IsRightly bytes.now stop) }
 {
-    Err(ReadStop::Memory)
+    match parse(alloc, bytes) {
+        Ok(parsed) => Ok(parsed),
+        Err(Stop::Memory) => Err(ReadStop::Memory),
+        Err(Stop::Other) => Err(ReadStop::Refused {
+            code: ReadCode::FirstPath,
+            place: Place { line: 1, column: 1 },
+        }),
+    }
 }

@@ -3,8 +3,10 @@ ghost use Rattle.std.specs.Prelude.{◌≡◌, ◌≤◌, ◌<◌, ◌^◌, ◌+
 ghost use Rattle.ir_reader.specs.FirstTree as spec;
 ghost use Rattle.ir_reader.specs.Parts as parts;
 
-use ir_module::{Attr, Attrs, Function, Functions, Locals};
-use ir_values::{Bytes, Copies, Memory, Name, Seq, Ty, Width};
+use crate::body::locals;
+use crate::line::Line;
+use ir_module::{Attr, Attrs, Block, Function, Functions, Insts, Locals, Module, Operand, Term};
+use ir_values::{Bytes, Copies, Int, Memory, Name, Seq, Ty, Tys, Value, Width};
 use itoa::Buffer;
 use std::alloc::Global;
 
@@ -69,8 +71,9 @@ fn declare(
 fn declare_runtime(alloc: Global, funcs: &mut Functions) -> Result<(), Memory>
     ensures { OnOk result (funcs.new ≡ funcs.old ++ parts.runtime) }
 {
+    let no_types = Tys::new(alloc);
     declare(alloc, funcs, b"__quantum__rt__initialize", Ty::Void, [Ty::Text].as_slice())?;
-    declare(alloc, funcs, b"__quantum__rt__qubit_allocate", Ty::Qubit, [].as_slice())?;
+    declare(alloc, funcs, b"__quantum__rt__qubit_allocate", Ty::Qubit, no_types.as_slice())?;
     declare(alloc, funcs, b"__quantum__rt__qubit_release", Ty::Void, [Ty::Qubit].as_slice())?;
     declare(alloc, funcs, b"__quantum__rt__read_result", Ty::Int(Width::W1), [Ty::Res].as_slice())?;
     declare(
@@ -86,7 +89,8 @@ fn declare_runtime(alloc: Global, funcs: &mut Functions) -> Result<(), Memory>
         b"__quantum__rt__result_record_output",
         Ty::Void,
         [Ty::Res, Ty::Text].as_slice(),
-    )
+    )?;
+    Ok(())
 }
 
 /// Adds the declarations of the gates.
@@ -109,7 +113,8 @@ fn declare_gates(alloc: Global, funcs: &mut Functions) -> Result<(), Memory>
         b"__quantum__qis__phase__body",
         Ty::Void,
         [Ty::Int(Width::W64), Ty::Qubit].as_slice(),
-    )
+    )?;
+    Ok(())
 }
 
 /// The declaration of the measurement.
@@ -153,4 +158,56 @@ fn entry_attrs(alloc: Global, qubits: u64) -> Result<Attrs, Memory>
     attrs.push(attr(alloc, b"required_num_qubits", digits)?)?;
     attrs.push(attr(alloc, b"required_num_results", b"0")?)?;
     Ok(attrs)
+}
+
+/// The block of these instructions, which returns zero.
+fn entry_block(alloc: Global, insts: Insts) -> Result<Block, Memory>
+    ensures { IfOk result (λ b. b ≡ parts.block insts) }
+{
+    let Some(zero) = Int::new(Width::W64, 0) else {
+        unreachable!()
+    };
+    Ok(Block {
+        name: Name::Text(bytes(alloc, b"entry")?),
+        phis: Seq::new(alloc),
+        insts,
+        term: Term::Ret(Ty::Int(Width::W64), Operand::Const(Value::Int(zero))),
+    })
+}
+
+fn entry(alloc: Global, qubits: u64, lines: &[Line], insts: Insts) -> Result<Function, Memory>
+    ensures { IfOk result (λ f. f ≡ parts.entry qubits lines.now insts) }
+{
+    let mut blocks = Seq::new(alloc);
+    blocks.push(entry_block(alloc, insts)?)?;
+    Ok(Function {
+        name: Name::Text(bytes(alloc, b"main")?),
+        ret: Ty::Int(Width::W64),
+        params: 0,
+        locals: locals(alloc, lines)?,
+        attrs: entry_attrs(alloc, qubits)?,
+        blocks: Some(blocks),
+    })
+}
+
+/// The tree of the program of these lines, whose instructions are given.
+pub(crate) fn module_tree(
+    alloc: Global,
+    qubits: u64,
+    lines: &[Line],
+    insts: Insts,
+) -> Result<Module, Memory>
+    requires { insts ≡ spec.insts_of [] lines.now }
+    ensures { IfOk result (λ m. m ≡ spec.tree_of (record { qubits = qubits; lines = lines.now })) }
+{
+    let mut funcs = Seq::new(alloc);
+    funcs.push(entry(alloc, qubits, lines, insts)?)?;
+    declare_runtime(alloc, &mut funcs)?;
+    declare_gates(alloc, &mut funcs)?;
+    funcs.push(measurement(alloc)?)?;
+    Ok(Module {
+        globals: Seq::new(alloc),
+        funcs,
+        flags: Seq::new(alloc),
+    })
 }

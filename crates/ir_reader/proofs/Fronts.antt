@@ -1,5 +1,5 @@
 -- A line and a qubit are told by their beginnings.
-use Rattle.std.proofs.Common.{◌≡◌, ℕ, ◌+◌, Bool, true, false, ◌==◌, nat_eq, if◌then◌else◌, List, [], ◌∷◌, ◌++◌, Option, None, Some, ◌≢◌, true≢false, refl, sym, ap, ◌∙◌, append_assoc, arith}
+use Rattle.std.proofs.Common.{◌≡◌, ℕ, Bool, true, false, ◌==◌, List, ◌∷◌, ◌++◌, None, Some, refl, sym, ap, ◌∙◌, append_assoc}
 use Rattle.std.specs.Prelude.{codes, decimal}
 use Rattle.std.specs.Cmp.{unsigned_Decides}
 use Rattle.ir_reader.specs.declared.line.Gate.{Gate}
@@ -62,7 +62,7 @@ is_controlled (Release name) rest text e = absurd cc
 is_controlled (Apply H q) rest text e = absurd cc
 is_controlled (Apply X q) rest text e = absurd cc
 is_controlled (Apply Z q) rest text e = absurd cc
-is_controlled (Cnot p q) rest text e = 
+is_controlled (Cnot p q) rest text e =
     (p, q, refl, some_is _ _ e ∙ append_assoc (qubit_text p ++ codes ", %Qubit* " ++ qubit_text q) (codes ")") (10 ∷ rest) ∙ append_assoc (qubit_text p ++ codes ", %Qubit* ") (qubit_text q) (codes ")" ++ 10 ∷ rest) ∙ append_assoc (qubit_text p) (codes ", %Qubit* ") (qubit_text q ++ (codes ")" ++ 10 ∷ rest)))
 
 pub line_begins : (l : Line) (rest text : List ℕ) → text ≡ line_text l ++ 10 ∷ rest

@@ -1,5 +1,5 @@
 -- The order of spots.
-use Rattle.std.proofs.Common.{◌≡◌, ℕ, ◌+◌, ◌-◌, ◌<◌, ◌⊎◌, inl, inr, suc, List, [], ◌∷◌, ◌++◌, length, refl, sym, ap, ◌∙◌, slice_index_or, arith}
+use Rattle.std.proofs.Common.{◌≡◌, ℕ, ◌+◌, ◌-◌, ◌<◌, ◌⊎◌, inl, inr, suc, List, [], ◌∷◌, ◌++◌, refl, ◌∙◌, slice_index_or, arith}
 use Rattle.std.proofs.lemmas.List.Elements.{All-push}
 use Rattle.ir_module.specs.declared.places.Place.{Place}
 use Rattle.ir_module.specs.declared.places.Spot.{Spot}

@@ -5,8 +5,7 @@ use Rattle.ir_reader.specs.declared.line.Gate.TheVariants.{H}
 use Rattle.ir_reader.specs.declared.line.Line.{Line}
 use Rattle.ir_reader.specs.declared.line.Line.TheVariants.{Allocate, Release, Apply, Cnot}
 use Rattle.ir_reader.specs.declared.line.Qubit.TheVariants.{Named, Numbered}
-use Rattle.ir_reader.specs.FirstText.{body_text, lines_fit, lines_text, tail_text}
-use Rattle.ir_reader.specs.FirstTree.{places_of}
+use Rattle.ir_reader.specs.FirstText.{body_text, lines_fit, lines_text}
 
 unfoldable two_allocations : List Line
 two_allocations =

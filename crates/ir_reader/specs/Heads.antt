@@ -1,5 +1,5 @@
 -- What stands at the head of a text, and what follows it.
-use Rattle.std.specs.Prelude.{ℕ, ◌==◌, ◌&&◌, not, nat_le, Bool, true, false, if◌then◌else◌, List, [], ◌∷◌, Option, None, Some}
+use Rattle.std.specs.Prelude.{ℕ, ◌==◌, ◌&&◌, not, nat_le, Bool, true, if◌then◌else◌, List, [], ◌∷◌, Option, None, Some}
 
 -- what follows the literal, where the text begins with it
 unfoldable pub strip : List ℕ → List ℕ → Option (List ℕ)

@@ -1,6 +1,5 @@
 -- What a reader of the texts of one block answers.
 use Rattle.std.specs.Prelude.{◌≡◌, ℕ, List}
-use Rattle.ir_module.specs.declared.places.Place.{Place}
 use Rattle.ir_module.specs.declared.tree.Module.{Module}
 use Rattle.ir_reader.specs.declared.parsed.Parsed.{Parsed}
 use Rattle.ir_reader.specs.declared.parsed.ReadCode.TheVariants.{FirstPath}

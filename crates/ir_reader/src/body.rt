@@ -77,12 +77,7 @@ fn function_of(gate: Gate) -> FuncId
 }
 
 /// The instruction of a line that fits behind the lines that defined these names.
-fn instruction(
-    alloc: Global,
-    qubits: u64,
-    names: &mut Names,
-    line: &Line,
-) -> Result<Inst, Stop>
+fn instruction(alloc: Global, qubits: u64, names: &mut Names, line: &Line) -> Result<Inst, Stop>
     ensures ok { IfOk result (λ i. (line_fits qubits names.old.entries line.now ≡ true) × (i ≡ inst_of names.old.entries line.now) × (names.new.entries ≡ after_line names.old.entries line.now)) }
     ensures other { result ≡ Err Stop.Other → line_fits qubits names.old.entries line.now ≡ false }
 {

@@ -25,7 +25,13 @@ fn place_instructions(places: &mut Places, count: u32) -> Result<(), Memory>
             block: BlockId(0),
             index: i as u64,
         };
-        places.push(Spot::At(point), Place { line: i + 3, column: 3 })?;
+        places.push(
+            Spot::At(point),
+            Place {
+                line: i + 3,
+                column: 3,
+            },
+        )?;
     }
     Ok(())
 }
@@ -62,7 +68,13 @@ pub(crate) fn text_places(alloc: Global, lines: u32) -> Result<Places, Memory>
 {
     let mut places = Places::new(alloc);
     places.push(Spot::Module, Place { line: 1, column: 1 })?;
-    places.push(Spot::Func(FuncId(0)), Place { line: 1, column: 12 })?;
+    places.push(
+        Spot::Func(FuncId(0)),
+        Place {
+            line: 1,
+            column: 12,
+        },
+    )?;
     place_instructions(&mut places, lines + 1)?;
     place_declarations(&mut places, lines + 5, 1, NAME_COLUMNS)?;
     Ok(places)

@@ -72,10 +72,34 @@ fn declare_runtime(alloc: Global, funcs: &mut Functions) -> Result<(), Memory>
     ensures { OnOk result (funcs.new ≡ funcs.old ++ parts.runtime) }
 {
     let no_types = Tys::new(alloc);
-    declare(alloc, funcs, b"__quantum__rt__initialize", Ty::Void, [Ty::Text].as_slice())?;
-    declare(alloc, funcs, b"__quantum__rt__qubit_allocate", Ty::Qubit, no_types.as_slice())?;
-    declare(alloc, funcs, b"__quantum__rt__qubit_release", Ty::Void, [Ty::Qubit].as_slice())?;
-    declare(alloc, funcs, b"__quantum__rt__read_result", Ty::Int(Width::W1), [Ty::Res].as_slice())?;
+    declare(
+        alloc,
+        funcs,
+        b"__quantum__rt__initialize",
+        Ty::Void,
+        [Ty::Text].as_slice(),
+    )?;
+    declare(
+        alloc,
+        funcs,
+        b"__quantum__rt__qubit_allocate",
+        Ty::Qubit,
+        no_types.as_slice(),
+    )?;
+    declare(
+        alloc,
+        funcs,
+        b"__quantum__rt__qubit_release",
+        Ty::Void,
+        [Ty::Qubit].as_slice(),
+    )?;
+    declare(
+        alloc,
+        funcs,
+        b"__quantum__rt__read_result",
+        Ty::Int(Width::W1),
+        [Ty::Res].as_slice(),
+    )?;
     declare(
         alloc,
         funcs,
@@ -97,9 +121,27 @@ fn declare_runtime(alloc: Global, funcs: &mut Functions) -> Result<(), Memory>
 fn declare_gates(alloc: Global, funcs: &mut Functions) -> Result<(), Memory>
     ensures { OnOk result (funcs.new ≡ funcs.old ++ parts.gates) }
 {
-    declare(alloc, funcs, b"__quantum__qis__h__body", Ty::Void, [Ty::Qubit].as_slice())?;
-    declare(alloc, funcs, b"__quantum__qis__x__body", Ty::Void, [Ty::Qubit].as_slice())?;
-    declare(alloc, funcs, b"__quantum__qis__z__body", Ty::Void, [Ty::Qubit].as_slice())?;
+    declare(
+        alloc,
+        funcs,
+        b"__quantum__qis__h__body",
+        Ty::Void,
+        [Ty::Qubit].as_slice(),
+    )?;
+    declare(
+        alloc,
+        funcs,
+        b"__quantum__qis__x__body",
+        Ty::Void,
+        [Ty::Qubit].as_slice(),
+    )?;
+    declare(
+        alloc,
+        funcs,
+        b"__quantum__qis__z__body",
+        Ty::Void,
+        [Ty::Qubit].as_slice(),
+    )?;
     declare(
         alloc,
         funcs,

@@ -1,14 +1,7 @@
-use Rattle.std.proofs.Common.{rules, ◌≡◌, ℕ, List, [], ◌∷◌, ◌++◌, true, refl, sym, ap, ◌∙◌, subst, true≢false, append_assoc, IfOk}
-use Rattle.std.specs.Prelude.{codes, decimal}
-use Rattle.std.specs.Cmp.{unsigned_Decides}
+use Rattle.std.proofs.Common.{rules, ◌≡◌, ◌∷◌, ◌++◌, refl, sym, ap, ◌∙◌}
+use Rattle.std.specs.Prelude.{codes}
 use Rattle.ir_reader.specs.declared.scan.Stop.TheVariants as stop
-use Rattle.ir_reader.specs.declared.line.Gate.TheVariants.{H, X, Z}
-use Rattle.ir_reader.specs.declared.line.Line.TheVariants.{Allocate, Release, Apply, Cnot}
-use Rattle.ir_reader.specs.declared.line.Qubit.TheVariants.{Named, Numbered}
-use Rattle.ir_reader.specs.FirstText.{is_name, qubit_text, line_text}
-use Rattle.ir_reader.specs.Lines as spec
-use borrow.Author.Tests.{ltb-true}
-use Rattle.ir_reader.proofs.Heads.{strip_taken, both_true}
+use Rattle.ir_reader.specs.declared.line.Line.TheVariants.{Release}
 use Rattle.ir_reader.proofs.Fronts as front
 use Rattle.ir_reader.proofs.lines.release.Goals as goal
 

@@ -1,4 +1,4 @@
-use Rattle.std.proofs.Common.{◌≡◌, ◌++◌, ◌∷◌, [], None, Some, true, false, not, refl, sym, ap, ◌∙◌, rules}
+use Rattle.std.proofs.Common.{true, false, sym, ap, ◌∙◌}
 use Rattle.ir_values.specs.Equal.{equal_decides}
 use Rattle.ir_reader.specs.FirstText.{is_name, is_defined}
 use Rattle.ir_reader.specs.FirstTree.{local_id}

@@ -1,7 +1,7 @@
-use Rattle.std.proofs.Common.{◌≡◌, None, Some, true, false, not, refl, sym, ap, ◌∙◌, rules}
+use Rattle.std.proofs.Common.{not, refl, sym, ap, ◌∙◌}
 use Rattle.ir_values.specs.Equal.{equal_decides}
 use Rattle.ir_reader.specs.FirstTree.{local_id}
-use Rattle.ir_reader.proofs.Scopes.{unusable, undefined, found, number_at, inserted, defined_is}
+use Rattle.ir_reader.proofs.Scopes.{unusable, found, number_at}
 use Rattle.ir_reader.proofs.names.local.Goals as goal
 
 pub returns-in_default : goal.returns-in_default

@@ -1,7 +1,6 @@
-use Rattle.std.proofs.Common.{◌≡◌, None, Some, true, false, not, refl, sym, ap, ◌∙◌, rules}
+use Rattle.std.proofs.Common.{◌∙◌}
 use Rattle.ir_values.specs.Equal.{equal_decides}
-use Rattle.ir_reader.specs.FirstTree.{local_id}
-use Rattle.ir_reader.proofs.Scopes.{unusable, undefined, found, number_at, inserted, defined_is}
+use Rattle.ir_reader.proofs.Scopes.{inserted}
 use Rattle.ir_reader.proofs.names.release.Goals as goal
 
 pub returns-clause-ok : goal.returns-clause-ok

@@ -1,8 +1,8 @@
-use Rattle.std.proofs.Common.{rules, arith, ◌≡◌, ◌+◌, ◌<◌, ◌≤◌, ◌^◌, true, false, [], Err, length, refl, sym, ap, ◌∙◌, subst, true≢false}
+use Rattle.std.proofs.Common.{rules, arith, ◌≡◌, ◌+◌, ◌≤◌, true, [], Err, length, refl, sym, ap, ◌∙◌, true≢false}
 use Rattle.ir_reader.specs.declared.scan.Stop.{Stop}
 use Rattle.ir_reader.specs.declared.scan.Stop.TheVariants as stop
-use Rattle.ir_reader.specs.FirstText.{Program, IsProgram, text_of, lines_fit}
-use Rattle.ir_reader.specs.FirstTree.{tree_of, places_of}
+use Rattle.ir_reader.specs.FirstText.{lines_fit}
+use Rattle.ir_reader.specs.FirstTree.{tree_of}
 use Rattle.ir_reader.specs.Parts as parts
 use Rattle.ir_reader.proofs.Plain.{all_plain, text_long}
 use Rattle.ir_reader.proofs.one_block.parse.Goals as goal
@@ -47,8 +47,8 @@ returns-clause-parsed c =
       spelled = s.1;
       tree = record {
         tree = c.in_ok-module.ensures ∙ ap (λ ls. tree_of (record { qubits = c.in_ok-lines.qubits; lines = ls })) c.as_slice-2.ensures;
-        places = c.in_ok-places.ensures ∙ ap parts.places c.len.ensures
-      }
+        places = c.in_ok-places.ensures ∙ ap parts.places c.len.ensures;
+      };
     }
 
 pub returns-clause-complete : goal.returns-clause-complete
@@ -58,5 +58,5 @@ returns-clause-complete c = λ p is e.
     let tree : tree_of (record { qubits = c.in_ok-lines.qubits; lines = c.as_slice-2.result.now }) ≡ tree_of p = λ j. tree_of (record { qubits = m.1 j; lines = lines j }) in
     record {
       tree = c.in_ok-module.ensures ∙ tree;
-      places = c.in_ok-places.ensures ∙ ap parts.places (c.len.ensures ∙ ap length m.0)
+      places = c.in_ok-places.ensures ∙ ap parts.places (c.len.ensures ∙ ap length m.0);
     }

@@ -9,7 +9,7 @@ invariant-loop-columns l = record {
   lines : l.line + length l.columns < 2 ^ 32;
   funcs : l.func + length l.columns < 2 ^ 32;
   placed : l.fn.places ++ declaration_places l.fn.line l.fn.func l.fn.columns ≡ l.places ++ declaration_places l.line l.func l.columns;
-  after : ComesAfter l.places (spot.Func (function_id l.func))
+  after : ComesAfter l.places (spot.Func (function_id l.func));
 }
 
 abbrev pub decreases-loop-columns : goal.decreases-loop-columns

@@ -13,5 +13,5 @@ loop-i-preserved c =
     let before : IsBefore (spot.At (point i)) (spot.At (point (i + 1))) = inr (refl, inr (refl, inr (refl, omega arith))) in
     record {
       placed = c.loop-i.invariant.placed ∙ ap (λ l. c.loop-i.places ++ l) (inst_step i c.args.count c.loop-i-test.true) ∙ sym (append_assoc c.loop-i.places ((spot.At (point i), place (i + 3) 3) ∷ []) rest) ∙ ap (λ l. l ++ rest) (sym pushed);
-      after = subst (λ l. ComesAfter l (spot.At (point (i + 1)))) (sym pushed) (next_after c.loop-i.places (spot.At (point i)) (spot.At (point (i + 1))) (place (i + 3) 3) c.loop-i.invariant.after before)
+      after = subst (λ l. ComesAfter l (spot.At (point (i + 1)))) (sym pushed) (next_after c.loop-i.places (spot.At (point i)) (spot.At (point (i + 1))) (place (i + 3) 3) c.loop-i.invariant.after before);
     }

@@ -24,7 +24,7 @@ loop-tail-preserved c =
     record {
       so_far = c.loop-tail.invariant.so_far ∙ body_snoc c.loop-tail.lines c.in_ok-line.line c.loop-tail.rest.now c.in_ok-line.more.now c.in_ok-line.ensures.sound ∙ ap (λ ls. body_text ls ++ c.in_ok-line.more.now) (sym pushed);
       ahead = λ ls tail h e.
-        let n = not_at_end c.loop-tail.lines ls c.loop-tail.rest.now tail (c.loop-tail.invariant.ahead ls tail h e) c.in_default.ensures in
-        let m = c.in_ok-line.ensures.complete n.line (body_text n.later ++ (ends ++ tail)) n.plain_line n.text in
-        subst (λ lines. Ahead lines c.in_ok-line.more.now ls tail) (sym pushed) (ahead_from c.loop-tail.lines ls c.loop-tail.rest.now tail n c.in_ok-line.line c.in_ok-line.more.now m.0 m.1)
+          let n = not_at_end c.loop-tail.lines ls c.loop-tail.rest.now tail (c.loop-tail.invariant.ahead ls tail h e) c.in_default.ensures in
+          let m = c.in_ok-line.ensures.complete n.line (body_text n.later ++ (ends ++ tail)) n.plain_line n.text in
+          subst (λ lines. Ahead lines c.in_ok-line.more.now ls tail) (sym pushed) (ahead_from c.loop-tail.lines ls c.loop-tail.rest.now tail n c.in_ok-line.line c.in_ok-line.more.now m.0 m.1);
     }

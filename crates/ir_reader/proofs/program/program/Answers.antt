@@ -31,10 +31,12 @@ returns-then-qubits-gt1000000000-clause-complete c = λ p h g e.
     absurd (omega arith)
 
 pub returns-clause-sound : goal.returns-clause-sound
-returns-clause-sound c = (c.if-qubits-gt1000000000.false,
-    c.in_ok-rest.ensures.sound
-    ∙ ap (λ t. lines_text head ++ t) (c.in_ok-lines.ensures.sound ∙ ap (λ t. body_text c.in_ok-lines.lines ++ (lines_text ret ++ t)) c.in-Some.ensures.sound)
-    ∙ sym (append_assoc (lines_text head) (body_text c.in_ok-lines.lines) (rest_text c.in-Some.qubits)))
+returns-clause-sound c = (
+  c.if-qubits-gt1000000000.false,
+  c.in_ok-rest.ensures.sound
+      ∙ ap (λ t. lines_text head ++ t) (c.in_ok-lines.ensures.sound ∙ ap (λ t. body_text c.in_ok-lines.lines ++ (lines_text ret ++ t)) c.in-Some.ensures.sound)
+      ∙ sym (append_assoc (lines_text head) (body_text c.in_ok-lines.lines) (rest_text c.in-Some.qubits)),
+)
 
 pub returns-clause-complete : goal.returns-clause-complete
 returns-clause-complete c = λ p h g e.

@@ -1,4 +1,4 @@
-use Rattle.std.proofs.Common.{◌≡◌, ◌==◌, List, ℕ, [], ◌++◌, Some, None, refl, sym, ap, ◌∙◌, true≢false, append-nil, length}
+use Rattle.std.proofs.Common.{◌≡◌, ◌==◌, [], ◌++◌, Some, refl, sym, ap, ◌∙◌, true≢false, append-nil, length}
 use Rattle.std.specs.Prelude.{decimal}
 use Rattle.std.specs.Cmp.{unsigned_Decides}
 use Rattle.std.proofs.lemmas.List.{nil_from_length}

@@ -1,6 +1,6 @@
-use Rattle.std.proofs.Common.{◌≡◌, refl, sym, ◌∙◌, true, true≢false}
+use Rattle.std.proofs.Common.{refl, ◌∙◌}
 use Rattle.std.proofs.lemmas.List.Sums.{prefix_len-le-length}
-use Rattle.ir_reader.specs.FirstText.{is_letter, is_name}
+use Rattle.ir_reader.specs.FirstText.{is_letter}
 use Rattle.ir_reader.proofs.Heads.{cut_is, letters_of_name}
 use Rattle.ir_reader.proofs.scan.name.Goals as goal
 

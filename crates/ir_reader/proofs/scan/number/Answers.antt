@@ -1,4 +1,4 @@
-use Rattle.std.proofs.Common.{◌≡◌, refl, sym, ◌∙◌, true, Some, None}
+use Rattle.std.proofs.Common.{◌≡◌, Some, None}
 use Rattle.std.proofs.lemmas.List.Sums.{prefix_len-le-length}
 use Rattle.std.specs.Prelude.{decimal}
 use Rattle.ir_reader.specs.Heads.{is_digit}

@@ -1,6 +1,5 @@
-use Rattle.std.proofs.Common.{◌≡◌, refl, sym, ◌∙◌, true, false, Ok, not, nat_eq}
+use Rattle.std.proofs.Common.{◌≡◌, sym, ◌∙◌, Ok}
 use Rattle.std.specs.Prelude.{decimal}
-use Rattle.std.specs.Cmp.Lexicographic.{other_text}
 use Rattle.std.proofs.lemmas.Fmt.{parse-decimal, IsAscii-decimal}
 use Rattle.std.proofs.lemmas.Str.{IsUtf8-from_ascii}
 use Rattle.ir_reader.proofs.Heads.{other_from_not}

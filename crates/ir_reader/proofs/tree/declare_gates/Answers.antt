@@ -1,8 +1,8 @@
 use Rattle.std.proofs.Common.{◌≡◌, [], ◌∷◌, ◌++◌, ◌∙◌, ap}
 use Rattle.std.specs.Prelude.{codes}
-use Rattle.ir_values.specs.declared.int.Width.TheVariants.{W1, W64}
+use Rattle.ir_values.specs.declared.int.Width.TheVariants.{W64}
 use Rattle.ir_values.specs.declared.ty.Ty.TheVariants as ty
-use Rattle.ir_values.specs.Calls.{rt, qis}
+use Rattle.ir_values.specs.Calls.{qis}
 use Rattle.ir_reader.specs.FirstTree.{declaration}
 use Rattle.ir_reader.proofs.Parts.{five_added}
 use Rattle.ir_reader.proofs.tree.declare_gates.Goals as goal

@@ -1,8 +1,8 @@
 use Rattle.std.proofs.Common.{◌≡◌, [], ◌∷◌, ◌++◌, ◌∙◌, ap}
 use Rattle.std.specs.Prelude.{codes}
-use Rattle.ir_values.specs.declared.int.Width.TheVariants.{W1, W64}
+use Rattle.ir_values.specs.declared.int.Width.TheVariants.{W1}
 use Rattle.ir_values.specs.declared.ty.Ty.TheVariants as ty
-use Rattle.ir_values.specs.Calls.{rt, qis}
+use Rattle.ir_values.specs.Calls.{rt}
 use Rattle.ir_reader.specs.FirstTree.{declaration}
 use Rattle.ir_reader.proofs.Parts.{six_added}
 use Rattle.ir_reader.proofs.tree.declare_runtime.Goals as goal

@@ -1,0 +1,5 @@
+pub mod Behaviour
+pub mod Bounds
+pub mod Forms
+pub mod Grow
+pub mod Relation

@@ -2,5 +2,10 @@
 #![tactic(auto)]
 
 mod end;
+mod laws;
 
 pub use end::{Ask, End};
+pub use laws::{
+    ended_runs_stay, modules_have_one_run, runs_are_steps, runs_only_grow,
+    simulation_keeps_behaviour,
+};

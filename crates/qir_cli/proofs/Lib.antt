@@ -1,5 +1,4 @@
-pub mod Calls
+mod Gates
+mod Moves
+mod Scopes
 mod Worked
-pub mod Numbers
-pub mod WholeText
-pub mod Writing

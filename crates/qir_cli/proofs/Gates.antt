@@ -1,11 +1,10 @@
 -- The gates of a module of one block, line by line, and where their functions stand in the lowered module.
-use Rattle.std.proofs.Common.{◌≡◌, ◌⊎◌, inl, inr, ℕ, zero, suc, ◌+◌, Bool, true, false, ◌||◌, List, [], ◌∷◌, ◌++◌, map, Option, Some, None, refl, sym, ap, ◌∙◌, subst, arith, true≢false, eq-eqb}
+use Rattle.std.proofs.Common.{◌≡◌, ◌⊎◌, inl, inr, ℕ, suc, ◌+◌, Bool, true, false, ◌||◌, List, [], ◌∷◌, ◌++◌, map, Some, refl, sym, ap, ◌∙◌, subst, arith, true≢false, eq-eqb}
 use Rattle.std.proofs.lemmas.Bool.Decides.{eqb_tells}
-use Rattle.std.specs.List.{flat_map, list_any}
-use Rattle.std.specs.Prelude.{◌==◌, ◌≢◌, IsTrue, slice_get, if◌then◌else◌, codes}
+use Rattle.std.specs.List.{flat_map}
+use Rattle.std.specs.Prelude.{◌==◌, ◌≢◌, IsTrue, slice_get, if◌then◌else◌}
 use Rattle.ir_module.specs.declared.tree.Function.{Function}
 use Rattle.ir_module.specs.declared.tree.Module.{Module}
-use Rattle.ir_reader.specs.declared.line.Gate.{Gate}
 use Rattle.ir_reader.specs.declared.line.Gate.TheVariants.{H, X, Z}
 use Rattle.ir_reader.specs.declared.line.Line.{Line}
 use Rattle.ir_reader.specs.declared.line.Line.TheVariants.{Allocate, Release, Apply, Cnot}
@@ -16,6 +15,7 @@ use Rattle.ir_values.specs.declared.value.FuncId.{FuncId}
 use Rattle.qir_cli.specs.BaseGates.{GateCall, gate_of, is_called, first_calls}
 use Rattle.qir_cli.specs.BaseTree.{number_among}
 use Rattle.qir_cli.proofs.Moves.{apply, cnot, numbers}
+use Rattle.qir_cli.proofs.Scopes.{or-left, or-right}
 
 abbrev pub gate_call : ℕ → Scope → FuncId → Function → List Qubit → GateCall
 gate_call k scope f g qs = record { number = f.0; callee = g; qubits = numbers k scope qs }
@@ -76,14 +76,6 @@ called-append (g ∷ gs) hs n h = by-case (λ k. called-append gs hs n k) (g.num
     by-case : (IsTrue (is_called gs n) → IsTrue (is_called (gs ++ hs) n)) → (c : Bool) → IsTrue (c || is_called gs n) → IsTrue (c || is_called (gs ++ hs) n)
     by-case ih true k = refl
     by-case ih false k = ih k
-
-or-left : (a b : Bool) → IsTrue a → IsTrue (a || b)
-or-left true b h = refl
-or-left false b h = absurd (true≢false (sym h))
-
-or-right : (a b : Bool) → IsTrue b → IsTrue (a || b)
-or-right true b h = refl
-or-right false b h = h
 
 called-last : (gs : List GateCall) (g : GateCall) → IsTrue (is_called (gs ++ g ∷ []) g.number)
 called-last [] g = or-left (g.number == g.number) false (eq-eqb g.number g.number refl)

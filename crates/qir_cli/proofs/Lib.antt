@@ -1,3 +1,5 @@
+pub mod BaseBehaviour
+mod Follow
 mod Gates
 mod Moves
 mod Scopes

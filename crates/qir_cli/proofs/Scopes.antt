@@ -1,11 +1,10 @@
 -- The names of a text of one block: which of them hold their allocations.
-use Rattle.std.proofs.Common.{◌≡◌, ◌⊎◌, inl, inr, ℕ, zero, suc, ◌+◌, ◌<◌, ◌≤◌, Bool, true, false, not, ◌||◌, cond, List, [], ◌∷◌, ◌++◌, length, get_or, Option, Some, None, refl, sym, ap, ◌∙◌, subst, arith, ⊎_elim, true≢false, eq-eqb, ne_eqb, eqb-true, get_or-set_same, get_or-set_other, length-set}
+use Rattle.std.proofs.Common.{◌≡◌, ◌⊎◌, inl, inr, ℕ, suc, ◌+◌, ◌<◌, Bool, true, false, not, ◌||◌, List, [], ◌∷◌, ◌++◌, length, get_or, Some, None, refl, sym, ap, ◌∙◌, subst, arith, ⊎_elim, true≢false, eq-eqb, ne_eqb, get_or-set_same, get_or-set_other, length-set}
 use Rattle.std.proofs.lemmas.Bool.{cases_lt}
 use Rattle.std.proofs.lemmas.Bool.Decides.{eqb_tells}
 use Rattle.std.proofs.lemmas.Option.{slice_get-get_or}
 use Rattle.std.specs.List.{list_any, filter}
 use Rattle.std.specs.Prelude.{◌==◌, ◌≢◌, IsTrue, if◌then◌else◌, slice_set, ◌&&◌}
-use Rattle.ir_module.specs.declared.tree.Operand.{Operand}
 use Rattle.ir_module.specs.declared.tree.Operand.TheVariants as operand
 use Rattle.ir_reader.specs.FirstText.{Scope, is_usable, released}
 use Rattle.ir_reader.specs.FirstTree.{number_of, local_id}
@@ -25,11 +24,11 @@ not-true : (b : Bool) → IsTrue (not b) → b ≡ false
 not-true true h = sym h
 not-true false h = refl
 
-or-right : (a b : Bool) → IsTrue b → IsTrue (a || b)
+pub or-right : (a b : Bool) → IsTrue b → IsTrue (a || b)
 or-right true b h = refl
 or-right false b h = h
 
-or-left : (a b : Bool) → IsTrue a → IsTrue (a || b)
+pub or-left : (a b : Bool) → IsTrue a → IsTrue (a || b)
 or-left true b h = refl
 or-left false b h = absurd (true≢false (sym h))
 

@@ -7,12 +7,13 @@ use Rattle.backend_api.specs.declared.operation.Answer.{Answer}
 use Rattle.backend_api.specs.declared.operation.Event.{Event}
 use Rattle.ir_module.specs.declared.tree.Module.{Module}
 use Rattle.output_records.specs.declared.record.Record.{Record}
+use Rattle.qir_meaning.specs.Laws.{HasRun}
 use Rattle.qir_meaning.specs.Naming.{Naming, named_events, named_end}
 use Rattle.qir_meaning.specs.Runs.{RunEnd, Cut, Runs}
 use Rattle.qir_meaning.specs.Same.{Prefix, SameBehaviour}
 use Rattle.qir_meaning.specs.Simulation.{Whole, Tick, On, Off, tick, run, whole_start, GoesBy, Alike, EndsBy, Meets, Follows, Started, Simulation}
 use Rattle.qir_meaning.specs.State.{State}
-use Rattle.qir_meaning.specs.Steps.{Ended, Jam}
+use Rattle.qir_meaning.specs.Steps.{Outcome, Ended, Jam}
 use Rattle.qir_meaning.proofs.Bounds.{EndsSo, run-from, runs-from, cut-or-over, over-of, prefix-at}
 use Rattle.qir_meaning.proofs.Grow.{Grows, OutGrows, IsOver, IsOverEnd, goes, run-suc, run-zero, run-grows, later-grows, longer, off-over, same-ends}
 
@@ -126,6 +127,13 @@ mul-le a b c h =
 more-than : (n r J W : ℕ) → r < W → (n + 1) * W ≤ r + J * W → n < J
 more-than n r J W lt h = ⊎_elim (λ l. l) (λ le. let a = mul-le J n W le in let b : (n + 1) * W ≡ n * W + 1 * W = add-mul n 1 W in let c : 1 * W ≡ W = omega arith in absurd (omega (arith, a, b, c))) (cases_lt n J)
 
+some-end : (o : Outcome) → o ≢ Jam → (e : RunEnd) × (st : State) × (o ≡ Ended e st)
+some-end (Ended e st) h = (e, st, refl)
+some-end Jam h = absurd (h refl)
+
+jam-ended : (e : RunEnd) (st : State) → Jam ≡ Ended e st → ⊥
+jam-ended e st h = cc
+
 module _ (m l : Module) (N : Naming) (W : ℕ) (sim : Simulation m l N W) (a : List Answer) where
   abbrev M : Whole
   M = whole_start sim.entry a
@@ -229,6 +237,34 @@ module _ (m l : Module) (N : Naming) (W : ℕ) (sim : Simulation m l N W) (a : L
           let g : Grows s'.0 f.state = subst (OutGrows s'.0) (f.by (f.steps + n) (omega arith)) (later-grows l n (f.steps + n) L Cut s'.0 (omega arith) s'.1) in
           (prefix-at s'.0.events f.state.events es' _ s'.2 (sym f.alike.events ∙ ap (named_events N) s.2) g.0, prefix-at s'.0.records f.state.records rs' rs s'.3 (sym f.alike.records ∙ s.3) g.1)
 
+  m-total : (n : ℕ) → (e : RunEnd) × (st : State) × (run m n M ≡ Ended e st)
+  m-total n = let f = begun.follows n in total N m l W n f.0 M begun.after f.1
+
+  m-run : (n : ℕ) → HasRun m a n
+  m-run n = let t = m-total n in (t.1.events, t.1.records, t.0, runs-from m sim.entry sim.is_entry a n t.1.events t.1.records t.0 t.1 t.2 refl refl)
+
+  -- a run that comes to an end with more steps is not lost before
+  l-run-by : (n k : ℕ) (e : RunEnd) (st : State) → n ≤ k → run l k L ≡ Ended e st → HasRun l a n
+  l-run-by n k e st le h =
+      let t = some-end (run l n L) (λ j. jam-ended e st (sym (longer l n k L Jam le tt j) ∙ h)) in
+      (t.1.events, t.1.records, t.0, runs-from l sim.lowered_entry sim.is_lowered_entry a n t.1.events t.1.records t.0 t.1 t.2 refl refl)
+
+  l-run : (n : ℕ) → HasRun l a n
+  l-run n = by-case (m-total ((n + 1) * W))
+    where
+      by-end : (e : RunEnd) (st : State) → run m ((n + 1) * W) M ≡ Ended e st → (e ≡ Cut) ⊎ IsOverEnd e → HasRun l a n
+      by-end e st h (inl c) =
+          let g = going ((n + 1) * W) st (h ∙ ap (λ k. Ended k st) c) in
+          let f = g.2 in
+          let lt = more-than n g.0 f.steps W g.1 f.bound in
+          l-run-by n f.steps Cut f.after.state (omega arith) (after-steps l f.steps 0 f.steps L f.after f.goes (omega arith) ∙ run-zero l f.after)
+      by-end e st h (inr o) =
+          let f = ended ((n + 1) * W) e st o h in
+          l-run-by n (f.steps + n) (named_end N e) f.state (omega arith) (f.by (f.steps + n) (omega arith))
+
+      by-case : (e : RunEnd) × (st : State) × (run m ((n + 1) * W) M ≡ Ended e st) → HasRun l a n
+      by-case t = by-end t.0 t.1 t.2 (cut-or-over t.0)
+
 pub same-behaviour : (m l : Module) (N : Naming) (W : ℕ) → Simulation m l N W → SameBehaviour m l N W
 same-behaviour m l N W sim = record {
   forth = λ a. forth m l N W sim a;
@@ -236,3 +272,6 @@ same-behaviour m l N W sim = record {
   cut_forth = λ a. cut-forth m l N W sim a;
   cut_back = λ a. cut-back m l N W sim a;
 }
+
+pub both-run : (m l : Module) (N : Naming) (W : ℕ) → Simulation m l N W → (a : List Answer) (n : ℕ) → HasRun m a n × HasRun l a n
+both-run m l N W sim a n = (m-run m l N W sim a n, l-run m l N W sim a n)

@@ -34,6 +34,14 @@ RunsOnlyGrow =
     (m : Module) (answers : List Answer) (n k : ℕ) (es es' : List Event) (rs rs' : List Record) (e e' : RunEnd) → n ≤ k → Runs m answers n es rs e
     → Runs m answers k es' rs' e' → Prefix es es' × Prefix rs rs'
 
+-- the module has a run with these answers and this bound
+abbrev pub HasRun : Module → List Answer → ℕ → Type 0
+HasRun m answers n = (es : List Event) × (rs : List Record) × (e : RunEnd) × Runs m answers n es rs e
+
 -- a module that follows another has the same behaviour
 abbrev pub SimulationKeepsBehaviour : Type 0
 SimulationKeepsBehaviour = (m l : Module) (N : Naming) (W : ℕ) → Simulation m l N W → SameBehaviour m l N W
+
+-- and both have a run, whatever the answers and the bound: no instruction is without a meaning
+abbrev pub SimulationGivesRuns : Type 0
+SimulationGivesRuns = (m l : Module) (N : Naming) (W : ℕ) → Simulation m l N W → (answers : List Answer) (n : ℕ) → HasRun m answers n × HasRun l answers n

@@ -4,6 +4,7 @@ ghost use Rattle.qir_meaning.specs.Laws.{
   HasOneRun,
   RunsAreSteps,
   RunsOnlyGrow,
+  SimulationGivesRuns,
   SimulationKeepsBehaviour,
 };
 
@@ -30,4 +31,10 @@ pub fn runs_only_grow()
 /// A module that follows another step by step has the same behaviour.
 pub fn simulation_keeps_behaviour()
     ensures { SimulationKeepsBehaviour }
+{}
+
+/// A module that follows another step by step has a run with any answers and bound, and so has the
+/// other.
+pub fn simulation_gives_runs()
+    ensures { SimulationGivesRuns }
 {}

@@ -25,13 +25,14 @@ use Rattle.ir_values.specs.declared.value.Name.TheVariants as name
 use Rattle.ir_values.specs.declared.value.Value.{Value}
 use Rattle.ir_values.specs.declared.value.Value.TheVariants as value
 use Rattle.qir_meaning.specs.Entry.{entry_of}
+use Rattle.qir_meaning.specs.Laws.{HasRun}
 use Rattle.qir_meaning.specs.Moves.{move, step_move, does}
 use Rattle.qir_meaning.specs.Same.{SameBehaviour}
-use Rattle.qir_meaning.specs.Simulation.{On, tick, whole_start, Started}
+use Rattle.qir_meaning.specs.Simulation.{On, tick, whole_start, Started, Simulation}
 use Rattle.qir_meaning.specs.State.{State, Next, frame}
 use Rattle.qir_cli.specs.BaseGates.{own_qubits, gates_of, used_gates, first_calls}
 use Rattle.qir_cli.specs.BaseTree.{base_tree, naming_of, block, block_id, initialize_call, lowered_gate, lowered_main, lowered_attrs, base_flags}
-use Rattle.qir_meaning.proofs.Behaviour.{same-behaviour}
+use Rattle.qir_meaning.proofs.Behaviour.{both-run, same-behaviour}
 use Rattle.qir_cli.proofs.Follow.{IsSource, IsTarget, state, target, tick-is, follow}
 use Rattle.qir_cli.proofs.Gates.{gates, gates-are, gates-known, all-found, AllFound}
 use Rattle.qir_cli.proofs.Moves.{at, apply, inst-at, term-at, holds-all, Holds, initialize, class-initialize, declared-move}
@@ -157,17 +158,22 @@ module _ (p : Program) (is : IsProgram p) (W : ℕ) (bound : length p.lines + 1 
     );
   }
 
-  pub base-behaviour : SameBehaviour m l (naming_of m) W
-  base-behaviour = same-behaviour m l (naming_of m) W (record {
+  simulation : Simulation m l (naming_of m) W
+  simulation = record {
     entry = record { number = 0; function = main_function p };
     lowered_entry = record { number = 0; function = lowered_main m (main_function p) };
     is_entry = source-entry p;
     is_lowered_entry = lowered-entry;
     started = started;
-  })
+  }
 
 pub base_tree-SameBehaviour : (p : Program) → IsProgram p → (W : ℕ) → length p.lines + 1 ≤ W → SameBehaviour (tree_of p) (base_tree (tree_of p)) (naming_of (tree_of p)) W
-base_tree-SameBehaviour p is W bound = base-behaviour p is W bound
+base_tree-SameBehaviour p is W bound = same-behaviour (tree_of p) (base_tree (tree_of p)) (naming_of (tree_of p)) W (simulation p is W bound)
+
+-- and both have runs
+pub base_tree-HasRun : (p : Program) → IsProgram p → (answers : List Answer) (n : ℕ) → HasRun (tree_of p) answers n × HasRun (base_tree (tree_of p)) answers n
+base_tree-HasRun p is answers n =
+    let W = length p.lines + 1 in both-run (tree_of p) (base_tree (tree_of p)) (naming_of (tree_of p)) W (simulation p is W (omega arith)) answers n
 
 -- the number in the attribute is read back
 pub own_qubits-tree_of : (p : Program) → IsProgram p → own_qubits (tree_of p) ≡ p.qubits

@@ -61,8 +61,9 @@ pub record EndsBy (N : Naming) (l : Module) (j : ℕ) (v : Whole) (e : RunEnd) (
   pub ends : tick l before ≡ Off (Ended (named_end N e) state)
   pub alike : Alike N st state
 
--- the run of l goes on for j steps, at most four, to where it follows with the rank r'; with no step the rank falls
-pub record Follows_on (l : Module) (W : ℕ) (goes_on : ℕ → Whole → Type 0) (r : ℕ) (v : Whole) : Type 0 where
+-- the run of l goes on, at most four steps, to where it follows with another rank: without a step of l the rank falls, and each step
+-- lets it rise by W
+pub record FollowsOn (l : Module) (W : ℕ) (goes_on : ℕ → Whole → Type 0) (r : ℕ) (v : Whole) : Type 0 where
   pub steps : ℕ
   pub few : steps ≤ 4
   pub after : Whole
@@ -71,9 +72,9 @@ pub record Follows_on (l : Module) (W : ℕ) (goes_on : ℕ → Whole → Type 0
   pub falls : rank < r + steps * W
   pub follows : goes_on rank after
 
--- what l does where m has this tick
+-- what l does where this is the next tick of m
 abbrev pub Meets : Naming → Module → ℕ → (ℕ → Whole → Whole → Type 0) → ℕ → Whole → Tick → Type 0
-Meets N l W goes_on r v (On w) = Follows_on l W (λ r' v'. goes_on r' w v') r v
+Meets N l W goes_on r v (On w) = FollowsOn l W (λ r' v'. goes_on r' w v') r v
 Meets N l W goes_on r v (Off (Ended e st)) = (j : ℕ) × (j < 4) × EndsBy N l j v e st
 Meets N l W goes_on r v (Off Jam) = ⊥
 
@@ -91,7 +92,7 @@ pub record Started (N : Naming) (m l : Module) (W : ℕ) (w v : Whole) : Type 0 
   pub goes : GoesBy l steps v after
   pub follows : (n : ℕ) → (r : ℕ) × Follows N m l W n r w after
 
--- for every list of answers
+-- it does so for every list of answers
 pub record Simulation (m l : Module) (N : Naming) (W : ℕ) : Type 0 where
   pub entry : Entry
   pub lowered_entry : Entry

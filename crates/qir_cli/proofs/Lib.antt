@@ -4,3 +4,4 @@ mod Gates
 mod Moves
 mod Scopes
 mod Worked
+mod WorkedRuns

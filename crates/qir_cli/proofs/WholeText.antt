@@ -49,9 +49,9 @@ pub base_text-written : (m : Module) (f : Function) (t0 t1 t2 t3 t4 t5 t6 t7 t8 
     → t8 ≡ base_text m
 base_text-written m f t0 t1 t2 t3 t4 t5 t6 t7 t8 is e0 e1 e2 e3 e4 e5 e6 e7 e8 =
     all_written t0 t1 t2 t3 t4 t5 t6 t7 t8 _ _ _ _ _ _ _ _ e0 e1 e2 e3 (e4 ∙ ap (λ t. t3 ++ t) (sym (lines-gates (gates_of m)))) e5
-        (e6 ∙ ap (λ t. t5 ++ t) (sym (lines-declares (used_gates m)))) e7 e8
+    (e6 ∙ ap (λ t. t5 ++ t) (sym (lines-declares (used_gates m)))) e7 e8
     ∙ sym (lines-split type_lines entry_lines (map gate_line (gates_of m)) end_lines (flat_map (λ g. declare_line g ∷ [] ∷ []) (used_gates m)) flag_lines
-        (define_line f) (attributes_line (own_qubits m + allocations m)))
+    (define_line f) (attributes_line (own_qubits m + allocations m)))
     ∙ sym (ap (text_of_main m) is)
 
 pub Wrote-all : (m : Module) (k : ℕ) (insts : List Inst) (lowered : Lowered) → Wrote (flat_map (gate_of m k) insts) lowered

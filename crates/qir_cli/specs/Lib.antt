@@ -1,4 +1,9 @@
+pub mod Answers
 pub mod BaseCode
 pub mod BaseGates
 pub mod BaseText
 pub mod BaseTree
+pub mod Budget
+pub mod Commands
+pub mod Outcomes
+pub mod Statuses

@@ -2,4 +2,12 @@
 #![tactic(auto)]
 
 mod base_lowering;
+mod command;
+mod program;
+mod reply;
+mod status;
 mod text;
+
+pub use command::Command;
+pub use program::qir;
+pub use status::Status;

@@ -1,0 +1,48 @@
+//! The commands, from their words.
+ghost use Rattle.std.specs.Prelude.{◌≡◌};
+ghost use Rattle.qir_cli.specs.Commands as spec;
+
+use crate::text::plain_number;
+
+/// A command.
+#[derive(Clone, Copy, Debug, PartialEq, Eq)]
+pub enum Command {
+    /// `lower base BUDGET`: lowers a module under the Base Profile, within a budget of instructions
+    /// from 1 to 10,000.
+    LowerBase { budget: u64 },
+}
+
+/// The command that the words are, compared exactly, if they are one.
+pub(crate) fn command_of(words: &[String]) -> Option<Command>
+    ensures { result ≡ spec.command_of (spec.texts_of words.now) }
+{
+    match words {
+        [name, profile, budget] => {
+            if name.as_str().as_bytes() == b"lower".as_slice()
+                && profile.as_str().as_bytes() == b"base".as_slice()
+            {
+                let budget = number_word(budget.as_str().as_bytes(), 1, 10_000)?;
+                Some(Command::LowerBase { budget })
+            } else {
+                None
+            }
+        }
+        _ => None,
+    }
+}
+
+/// The number that a word writes in plain digits, if it lies in these limits.
+fn number_word(word: &[u8], least: u64, most: u64) -> Option<u64>
+    ensures { result ≡ spec.number_word least most word.now }
+{
+    match plain_number(word) {
+        Some(n) => {
+            if least <= n && n <= most {
+                Some(n)
+            } else {
+                None
+            }
+        }
+        None => None,
+    }
+}

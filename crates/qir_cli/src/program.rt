@@ -1,0 +1,68 @@
+//! The whole program, over any source and sink.
+ghost use Rattle.std.specs.Prelude.{◌≡◌, ◌≤◌, ◌+◌, ◌↔◌, None};
+ghost use Rattle.qir_ports.specs.Known.{Rose, Takes, GivesUpTo};
+ghost use Rattle.qir_cli.specs.Answers.{limit};
+ghost use Rattle.qir_cli.specs.Commands.{command_of, texts_of};
+ghost use Rattle.qir_cli.specs.Outcomes.{Answered, PartlyAnswered, Sends, IsAnswered, IsUnwritten};
+
+use crate::command;
+use crate::reply;
+use crate::reply::Reply;
+use crate::status::Status;
+use ir_values::Memory;
+use qir_ports::{ReadError, Sink, Source, read_all, write_all};
+use std::alloc::Global;
+
+/// The most bytes that an input has.
+const LIMIT: usize = 4_194_304;
+
+/// Does what the words say, which is all that the program does: reads the source to its end, and
+/// writes the answer to the sink.
+///
+/// - `BadWords` comes exactly where the words are no command, and then nothing is read or written.
+/// - `ReadFault` comes only where a read failed, and then nothing is written.
+/// - `WriteFault` comes only where a write failed, and then the beginning of the answer was written.
+/// - `Memory` says only that there was none, and then nothing is written.
+/// - Every other status comes with the whole of the answer that the command has for all the bytes that
+///   the source had left, where it tells them.
+pub fn qir<S: Source, K: Sink>(
+    alloc: Global,
+    words: &Vec<String>,
+    input: &mut S,
+    out: &mut K,
+) -> Status
+    ensures bad_words { (result ≡ Status.BadWords) ↔ (command_of (texts_of words.now.items) ≡ None) }
+    ensures unread { result ≡ Status.BadWords → input.new ≡ input.old }
+    ensures unwritten { IsUnwritten result → out.new ≡ out.old }
+    ensures read { GivesUpTo (limit + 1) (S.left input.old) (S.left input.new) }
+    ensures read_fault { result ≡ Status.ReadFault → Rose (S.faults input.old) (S.faults input.new) }
+    ensures write_fault { result ≡ Status.WriteFault → Rose (K.faults out.old) (K.faults out.new) }
+    ensures answered { IsAnswered result → Answered (texts_of words.now.items) (S.left input.old)
+        (K.taken out.old) (K.taken out.new) result }
+    ensures partly_answered { result ≡ Status.WriteFault → PartlyAnswered (texts_of words.now.items)
+        (S.left input.old) (K.taken out.old) (K.taken out.new) }
+{
+    let Some(command) = command::command_of(words.as_slice()) else {
+        return Status::BadWords;
+    };
+    match read_all(alloc, input, LIMIT) {
+        Ok(text) => send(out, reply::answer(alloc, command, text.as_slice())),
+        Err(ReadError::TooLong) => send(out, reply::too_long(alloc)),
+        Err(ReadError::Failed) => Status::ReadFault,
+        Err(ReadError::Memory) => Status::Memory,
+    }
+}
+
+/// Writes an answer, if there was memory for it.
+fn send<K: Sink>(out: &mut K, reply: Result<Reply, Memory>) -> Status
+    ensures { Sends reply (K.taken out.old) (K.taken out.new) (K.faults out.old) (K.faults out.new)
+        (out.new ≡ out.old) result }
+{
+    match reply {
+        Ok(reply) => match write_all(out, reply.text.as_slice()) {
+            Ok(()) => reply.status,
+            Err(_) => Status::WriteFault,
+        },
+        Err(Memory) => Status::Memory,
+    }
+}

@@ -1,0 +1,7 @@
+//! Worked examples of the whole program, over sources and sinks in memory.
+#![tactic(auto)]
+
+#[cfg(test)]
+mod given;
+#[cfg(test)]
+mod lower_base;

@@ -39,6 +39,12 @@ not_fault s a e = subst IsAnswered e a
 pub not_bad : (s : Status) → IsAnswered s → s ≡ BadWords → ⊥
 not_bad s a e = subst IsAnswered e a
 
+-- what a status says once a reply was sent
+pub record Sent (words : List (List ℕ)) (left taken taken' : Option (List ℕ)) (unchanged : Type 0) (s : Status) : Type 0 where
+  pub unwritten : IsUnwritten s → unchanged
+  pub answered : IsAnswered s → Answered words left taken taken' s
+  pub partly : s ≡ WriteFault → PartlyAnswered words left taken taken'
+
 module _ (words : List (List ℕ)) (command : Command) (is_command : command_of words ≡ Some command) (left : Option (List ℕ)) (bytes : List ℕ)
     (input : IfSome left (λ all. all ≡ bytes)) (taken taken' : Option (List ℕ)) (faults faults' : ℕ) where
   writes-unwritten : (r : Reply) (s : Status) → Answer command bytes r.status r.text → Writes r taken taken' faults faults' s → IsUnwritten s → ⊥
@@ -55,20 +61,18 @@ module _ (words : List (List ℕ)) (command : Command) (is_command : command_of 
   writes-partly r s answer (in_part {count} few takes rose) e =
       record { command = command; is_command = is_command; bytes = bytes; input = input; status = r.status; text = r.text; answer = answer; count = count; not_all = few; written = takes }
 
-  pub sent-unwritten : (unchanged : Type 0) (r : Result Reply NoMemory) (s : Status) → IfOk r (λ r. Answer command bytes r.status r.text)
-      → Sends r taken taken' faults faults' unchanged s → IsUnwritten s → unchanged
-  sent-unwritten unchanged (Ok r) s answer sends u = absurd (writes-unwritten r s answer sends u)
-  sent-unwritten unchanged (Err e) s answer sends u = sends.0
-
-  pub sent-answered : (unchanged : Type 0) (r : Result Reply NoMemory) (s : Status) → IfOk r (λ r. Answer command bytes r.status r.text)
-      → Sends r taken taken' faults faults' unchanged s → IsAnswered s → Answered words left taken taken' s
-  sent-answered unchanged (Ok r) s answer sends a = writes-answered r s answer sends a
-  sent-answered unchanged (Err e) s answer sends a = absurd (subst IsAnswered sends.1 a)
-
-  pub sent-partly : (unchanged : Type 0) (r : Result Reply NoMemory) (s : Status) → IfOk r (λ r. Answer command bytes r.status r.text)
-      → Sends r taken taken' faults faults' unchanged s → s ≡ WriteFault → PartlyAnswered words left taken taken'
-  sent-partly unchanged (Ok r) s answer sends e = writes-partly r s answer sends e
-  sent-partly unchanged (Err x) s answer sends e = cc sends.1
+  pub sent : (unchanged : Type 0) (r : Result Reply NoMemory) (s : Status) → IfOk r (λ r. Answer command bytes r.status r.text)
+      → Sends r taken taken' faults faults' unchanged s → Sent words left taken taken' unchanged s
+  sent unchanged (Ok r) s answer sends = record {
+    unwritten = λ u. absurd (writes-unwritten r s answer sends u);
+    answered = writes-answered r s answer sends;
+    partly = writes-partly r s answer sends;
+  }
+  sent unchanged (Err x) s answer sends = record {
+    unwritten = λ _. sends.0;
+    answered = λ a. absurd (subst IsAnswered sends.1 a);
+    partly = λ e. cc sends.1;
+  }
 
 long_bytes : (n : ℕ) → (bytes : List ℕ) × (n < length bytes)
 long_bytes n = (replicate (n + 1) 0, subst (λ k. n < k) (sym (length-replicate (n + 1) 0)) (omega arith))

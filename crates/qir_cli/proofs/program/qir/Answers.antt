@@ -1,36 +1,45 @@
-use Rattle.std.proofs.Common.{◌≡◌, ◌∙◌, List, ap, sym, subst}
+use Rattle.std.proofs.Common.{◌≡◌, ◌∙◌, ap, sym, subst}
 use Rattle.std.specs.Prelude.{Some, Err, IfOk}
 use Rattle.qir_cli.specs.Answers.{Answer, limit}
 use Rattle.qir_cli.specs.Commands.{command_of, texts_of}
-use Rattle.qir_cli.proofs.Sending.{sent-unwritten, sent-answered, sent-partly, long_input, too_long-answer, GivesUpTo-too_many}
+use Rattle.qir_cli.proofs.Sending.{Sent, sent, long_input, too_long-answer, GivesUpTo-too_many}
+use Rattle.qir_cli.proofs.program.qir.Given
 use Rattle.qir_cli.proofs.program.qir.Goals as goal
 
-pub returns-in-Ok-clause-unwritten : goal.returns-in-Ok-clause-unwritten
-returns-in-Ok-clause-unwritten g c =
+-- the text was read to its end
+whole_text : (g : Given.Over) (c : goal.After-drop-text-inside g)
+    → Sent (texts_of c.args.words.now.items) (g.S.Source.left c.args.input.now) (g.K.Sink.taken c.args.out.now) (g.K.Sink.taken c.send.new.out)
+        (c.send.new.out ≡ c.args.out.now) c.send.result
+whole_text g c =
     let words = texts_of c.args.words.now.items in
     let is : command_of words ≡ Some c.in-Some.command = ap (λ ws. command_of (texts_of ws)) (sym c.as_slice.ensures.value) ∙ sym c.in-Some.ensures in
     let answer = subst (λ b. IfOk c.answer.result (λ r. Answer c.in-Some.command b r.status r.text)) c.as_slice-in-Ok.ensures c.answer.ensures in
-    sent-unwritten words c.in-Some.command is (g.S.Source.left c.args.input.now) c.in-Ok.text c.in-Ok.ensures.ok.all
+    sent words c.in-Some.command is (g.S.Source.left c.args.input.now) c.in-Ok.text c.in-Ok.ensures.ok.all
     (g.K.Sink.taken c.args.out.now) (g.K.Sink.taken c.send.new.out) (g.K.Sink.faults c.args.out.now) (g.K.Sink.faults c.send.new.out)
     (c.send.new.out ≡ c.args.out.now) c.answer.result c.send.result answer c.send.ensures
+
+-- it is too long
+long_text : (g : Given.Over) (c : goal.After-send-in-Err-TooLong g)
+    → Sent (texts_of c.args.words.now.items) (g.S.Source.left c.args.input.now) (g.K.Sink.taken c.args.out.now) (g.K.Sink.taken c.send-in-Err-TooLong.new.out)
+        (c.send-in-Err-TooLong.new.out ≡ c.args.out.now) c.send-in-Err-TooLong.result
+long_text g c =
+    let words = texts_of c.args.words.now.items in
+    let is : command_of words ≡ Some c.in-Some.command = ap (λ ws. command_of (texts_of ws)) (sym c.as_slice.ensures.value) ∙ sym c.in-Some.ensures in
+    let long = c.in-Err-TooLong.ensures.too_long (ap Err c.in-Err-TooLong.field-0-is) in
+    let input = long_input (g.S.Source.left c.args.input.now) long.more in
+    sent words c.in-Some.command is (g.S.Source.left c.args.input.now) input.0 input.2
+    (g.K.Sink.taken c.args.out.now) (g.K.Sink.taken c.send-in-Err-TooLong.new.out) (g.K.Sink.faults c.args.out.now) (g.K.Sink.faults c.send-in-Err-TooLong.new.out)
+    (c.send-in-Err-TooLong.new.out ≡ c.args.out.now) c.too_long.result c.send-in-Err-TooLong.result
+    (too_long-answer c.in-Some.command input.0 input.1 c.too_long.result c.too_long.ensures.text c.too_long.ensures.status) c.send-in-Err-TooLong.ensures
+
+pub returns-in-Ok-clause-unwritten : goal.returns-in-Ok-clause-unwritten
+returns-in-Ok-clause-unwritten g c = (whole_text g c).unwritten
 
 pub returns-in-Ok-clause-answered : goal.returns-in-Ok-clause-answered
-returns-in-Ok-clause-answered g c =
-    let words = texts_of c.args.words.now.items in
-    let is : command_of words ≡ Some c.in-Some.command = ap (λ ws. command_of (texts_of ws)) (sym c.as_slice.ensures.value) ∙ sym c.in-Some.ensures in
-    let answer = subst (λ b. IfOk c.answer.result (λ r. Answer c.in-Some.command b r.status r.text)) c.as_slice-in-Ok.ensures c.answer.ensures in
-    sent-answered words c.in-Some.command is (g.S.Source.left c.args.input.now) c.in-Ok.text c.in-Ok.ensures.ok.all
-    (g.K.Sink.taken c.args.out.now) (g.K.Sink.taken c.send.new.out) (g.K.Sink.faults c.args.out.now) (g.K.Sink.faults c.send.new.out)
-    (c.send.new.out ≡ c.args.out.now) c.answer.result c.send.result answer c.send.ensures
+returns-in-Ok-clause-answered g c = (whole_text g c).answered
 
 pub returns-in-Ok-clause-partly_answered : goal.returns-in-Ok-clause-partly_answered
-returns-in-Ok-clause-partly_answered g c =
-    let words = texts_of c.args.words.now.items in
-    let is : command_of words ≡ Some c.in-Some.command = ap (λ ws. command_of (texts_of ws)) (sym c.as_slice.ensures.value) ∙ sym c.in-Some.ensures in
-    let answer = subst (λ b. IfOk c.answer.result (λ r. Answer c.in-Some.command b r.status r.text)) c.as_slice-in-Ok.ensures c.answer.ensures in
-    sent-partly words c.in-Some.command is (g.S.Source.left c.args.input.now) c.in-Ok.text c.in-Ok.ensures.ok.all
-    (g.K.Sink.taken c.args.out.now) (g.K.Sink.taken c.send.new.out) (g.K.Sink.faults c.args.out.now) (g.K.Sink.faults c.send.new.out)
-    (c.send.new.out ≡ c.args.out.now) c.answer.result c.send.result answer c.send.ensures
+returns-in-Ok-clause-partly_answered g c = (whole_text g c).partly
 
 pub returns-in-Err-TooLong-clause-read : goal.returns-in-Err-TooLong-clause-read
 returns-in-Err-TooLong-clause-read g c =
@@ -38,23 +47,7 @@ returns-in-Err-TooLong-clause-read g c =
     (c.in-Err-TooLong.ensures.too_long (ap Err c.in-Err-TooLong.field-0-is))
 
 pub returns-in-Err-TooLong-clause-answered : goal.returns-in-Err-TooLong-clause-answered
-returns-in-Err-TooLong-clause-answered g c =
-    let words = texts_of c.args.words.now.items in
-    let is : command_of words ≡ Some c.in-Some.command = ap (λ ws. command_of (texts_of ws)) (sym c.as_slice.ensures.value) ∙ sym c.in-Some.ensures in
-    let long = c.in-Err-TooLong.ensures.too_long (ap Err c.in-Err-TooLong.field-0-is) in
-    let input = long_input (g.S.Source.left c.args.input.now) long.more in
-    sent-answered words c.in-Some.command is (g.S.Source.left c.args.input.now) input.0 input.2
-    (g.K.Sink.taken c.args.out.now) (g.K.Sink.taken c.send-in-Err-TooLong.new.out) (g.K.Sink.faults c.args.out.now) (g.K.Sink.faults c.send-in-Err-TooLong.new.out)
-    (c.send-in-Err-TooLong.new.out ≡ c.args.out.now) c.too_long.result c.send-in-Err-TooLong.result
-    (too_long-answer c.in-Some.command input.0 input.1 c.too_long.result c.too_long.ensures.text c.too_long.ensures.status) c.send-in-Err-TooLong.ensures
+returns-in-Err-TooLong-clause-answered g c = (long_text g c).answered
 
 pub returns-in-Err-TooLong-clause-partly_answered : goal.returns-in-Err-TooLong-clause-partly_answered
-returns-in-Err-TooLong-clause-partly_answered g c =
-    let words = texts_of c.args.words.now.items in
-    let is : command_of words ≡ Some c.in-Some.command = ap (λ ws. command_of (texts_of ws)) (sym c.as_slice.ensures.value) ∙ sym c.in-Some.ensures in
-    let long = c.in-Err-TooLong.ensures.too_long (ap Err c.in-Err-TooLong.field-0-is) in
-    let input = long_input (g.S.Source.left c.args.input.now) long.more in
-    sent-partly words c.in-Some.command is (g.S.Source.left c.args.input.now) input.0 input.2
-    (g.K.Sink.taken c.args.out.now) (g.K.Sink.taken c.send-in-Err-TooLong.new.out) (g.K.Sink.faults c.args.out.now) (g.K.Sink.faults c.send-in-Err-TooLong.new.out)
-    (c.send-in-Err-TooLong.new.out ≡ c.args.out.now) c.too_long.result c.send-in-Err-TooLong.result
-    (too_long-answer c.in-Some.command input.0 input.1 c.too_long.result c.too_long.ensures.text c.too_long.ensures.status) c.send-in-Err-TooLong.ensures
+returns-in-Err-TooLong-clause-partly_answered g c = (long_text g c).partly

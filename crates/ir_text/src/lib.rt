@@ -1,0 +1,15 @@
+//! The tokens of a QIR module's text.
+#![tactic(auto)]
+
+mod class;
+mod fault;
+mod next;
+mod number;
+mod shape;
+mod tok;
+
+pub use next::{next_token, tokens_are_one};
+pub use tok::{LexCode, LexError, Span, Tok};
+
+#[cfg(test)]
+mod tests;

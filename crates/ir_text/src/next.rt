@@ -1,0 +1,118 @@
+//! The next token of a text.
+ghost use Rattle.std.specs.Prelude.{ℕ, ◌≡◌, ◌≢◌, ◌≤◌, ◌<◌, ◌↔◌, false};
+ghost use Rattle.std.specs.Prelude.{List, length, drop, map, IfOk, IfErr};
+ghost use Rattle.ir_text.specs.Next as spec;
+ghost use Rattle.ir_text.specs.Next.{answers, then_more};
+ghost use Rattle.ir_text.specs.Tokens.{is_blank, IsNext, IsFault, Tokens};
+
+use crate::fault::fault_in;
+use crate::shape::shape;
+use crate::tok::{LexError, Span, Tok};
+
+/// The next token of a text from byte number `at` on, behind blanks and comments, with its slice;
+/// at the end of the text `Tok::End`, whose slice is empty and stands behind the last byte. Blanks
+/// are space, tab, LF and CR. A comment runs from `;` up to the next LF or the end of the text (LLVM
+/// Language Reference, 'Identifiers'). The longest token is taken. It takes no memory.
+///
+/// `at` is at most the length of the text. To go on, call it with the end of the slice.
+///
+/// # Errors
+///
+/// - `OpenString`, at the first byte of the token, where no quote ends its string.
+/// - `BadEscape`, at the first `\` of the token that neither a `\` nor two hexadecimal digits follow.
+/// - `NumberTooWide`, at the first byte of an integer whose magnitude is 2^128 or more.
+/// - `BadByte`, at a byte with which no token begins here.
+///
+/// # Cost
+///
+/// A call reads the blanks and comments before the token, and the token. Where that begins with a
+/// letter, a digit or one of `-`, `$`, `.` and `_`, it also reads up to the next byte that is none of
+/// these, since a `:` there makes all of them a label.
+pub fn next_token(bytes: &[u8], at: usize) -> Result<(Tok, Span), LexError>
+    requires { at ≤ length bytes.now }
+    // Exactly the next token or the end, or exactly the fault that the next token has.
+    ensures token { (found : Tok × Span) →
+        (result ≡ Ok found) ↔ IsNext at (drop at bytes.now) found }
+    ensures fault { (error : LexError) →
+        (result ≡ Err error) ↔ IsFault at (drop at bytes.now) error }
+
+    // The same as a function of the rest of the text.
+    ensures next { result ≡ spec.next at (drop at bytes.now) }
+
+    // Where a token and where a fault lie.
+    ensures slice { IfOk result (λ found. (at ≤ found.1.from)
+        × (found.1.from ≤ found.1.to) × (found.1.to ≤ length bytes.now)) }
+    ensures progress { IfOk result (λ found. found.0 ≢ Tok.End → found.1.from < found.1.to) }
+    ensures place { IfErr result (λ error. (at ≤ error.at) × (error.at < length bytes.now)) }
+{
+    let rest = after_gap(bytes.split_at(at).1);
+    let from = bytes.len() - rest.len();
+    match token(rest) {
+        Ok((kind, len)) => Ok((
+            kind,
+            Span {
+                from,
+                to: from + len,
+            },
+        )),
+        Err(fault) => Err(LexError {
+            code: fault.code,
+            at: from + fault.at,
+        }),
+    }
+}
+
+/// A text has at most one list of tokens, and `next_token` gives it: called again and again, each
+/// time with the end of the slice before, it answers these tokens up to the end exactly where there
+/// is such a list. Otherwise a fault comes last.
+pub fn tokens_are_one()
+    ensures one { (bytes : List ℕ) (some others : List (Tok × Span)) →
+        Tokens bytes some → Tokens bytes others → some ≡ others }
+    ensures called { (bytes : List ℕ) (tokens : List (Tok × Span)) →
+        Tokens bytes tokens ↔ (answers 0 bytes ≡ map Ok tokens) }
+
+    // The answers from a place on are the next one and those behind it.
+    ensures step { (at : ℕ) (rest : List ℕ) →
+        answers at rest ≡ then_more answers at rest (spec.next at rest) }
+{}
+
+/// The kind and the length of the token that the bytes begin with, or its fault at a byte counted
+/// from the first.
+fn token(bytes: &[u8]) -> Result<(Tok, usize), LexError>
+    ensures { result ≡ spec.token bytes.now }
+{
+    match shape(bytes) {
+        Ok((kind, more)) => {
+            let len = bytes.len() - more.len();
+            match fault_in(kind, &bytes[..len]) {
+                Some(fault) => Err(fault),
+                None => Ok((kind, len)),
+            }
+        }
+        Err(code) => Err(LexError { code, at: 0 }),
+    }
+}
+
+/// The bytes behind blanks and comments.
+fn after_gap(mut bytes: &[u8]) -> &[u8]
+    ensures { result.now ≡ spec.after_gap false bytes.entry.now }
+{
+    let mut in_comment = false;
+    while let [c, rest @ ..] = bytes {
+        if in_comment {
+            in_comment = *c != b'\n';
+        } else if *c == b';' {
+            in_comment = true;
+        } else if !is_blank(*c) {
+            return bytes;
+        }
+        bytes = rest;
+    }
+    bytes
+}
+
+fn is_blank(byte: u8) -> bool
+    ensures { result ≡ is_blank byte }
+{
+    matches!(byte, b' ' | b'\t' | b'\n' | b'\r')
+}

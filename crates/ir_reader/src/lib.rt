@@ -16,3 +16,6 @@ mod tree;
 pub use line::{Gate, Line, Qubit};
 pub use one_block::read;
 pub use parsed::{Parsed, ReadCode, ReadStop};
+
+#[cfg(test)]
+mod tests;

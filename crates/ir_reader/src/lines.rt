@@ -52,6 +52,7 @@ fn qubit(alloc: Global, text: &[u8]) -> Result<(Qubit, &[u8]), Stop>
     numbered(rest)
 }
 
+/// An allocation whose text begins with the `  %` before this text.
 fn allocation(alloc: Global, text: &[u8]) -> Result<(Line, &[u8]), Stop>
     ensures sound { IfOk result (λ r. spec.allocate ++ text.now ≡ line_text r.0 ++ 10 ∷ r.1.now) }
     ensures complete { (l : TheLine) (rest : List ℕ) → spec.is_plain_line l ≡ true → strip spec.allocate (line_text l ++ 10 ∷ rest) ≡ Some text.now → MatchResult result (λ r. (r.0 ≡ l) × (r.1.now ≡ rest)) (λ e. e ≡ Stop.Memory) }
@@ -61,6 +62,7 @@ fn allocation(alloc: Global, text: &[u8]) -> Result<(Line, &[u8]), Stop>
     Ok((Line::Allocate(name), rest))
 }
 
+/// A release whose text begins with the call up to the name, before this text.
 fn release(alloc: Global, text: &[u8]) -> Result<(Line, &[u8]), Stop>
     ensures sound { IfOk result (λ r. spec.release ++ text.now ≡ line_text r.0 ++ 10 ∷ r.1.now) }
     ensures complete { (l : TheLine) (rest : List ℕ) → spec.is_plain_line l ≡ true → strip spec.release (line_text l ++ 10 ∷ rest) ≡ Some text.now → MatchResult result (λ r. (r.0 ≡ l) × (r.1.now ≡ rest)) (λ e. e ≡ Stop.Memory) }
@@ -70,6 +72,7 @@ fn release(alloc: Global, text: &[u8]) -> Result<(Line, &[u8]), Stop>
     Ok((Line::Release(name), rest))
 }
 
+/// An application of a gate whose text begins with the call up to the qubit, before this text.
 fn application(alloc: Global, gate: Gate, text: &[u8]) -> Result<(Line, &[u8]), Stop>
     ensures sound { IfOk result (λ r. spec.apply gate ++ text.now ≡ line_text r.0 ++ 10 ∷ r.1.now) }
     ensures complete { (l : TheLine) (rest : List ℕ) → spec.is_plain_line l ≡ true → strip (spec.apply gate) (line_text l ++ 10 ∷ rest) ≡ Some text.now → MatchResult result (λ r. (r.0 ≡ l) × (r.1.now ≡ rest)) (λ e. e ≡ Stop.Memory) }
@@ -79,6 +82,7 @@ fn application(alloc: Global, gate: Gate, text: &[u8]) -> Result<(Line, &[u8]), 
     Ok((Line::Apply(gate, target), rest))
 }
 
+/// A controlled not whose text begins with the call up to the control, before this text.
 fn controlled(alloc: Global, text: &[u8]) -> Result<(Line, &[u8]), Stop>
     ensures sound { IfOk result (λ r. spec.cnot ++ text.now ≡ line_text r.0 ++ 10 ∷ r.1.now) }
     ensures complete { (l : TheLine) (rest : List ℕ) → spec.is_plain_line l ≡ true → strip spec.cnot (line_text l ++ 10 ∷ rest) ≡ Some text.now → MatchResult result (λ r. (r.0 ≡ l) × (r.1.now ≡ rest)) (λ e. e ≡ Stop.Memory) }

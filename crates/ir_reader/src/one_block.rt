@@ -12,6 +12,7 @@ use crate::tree::module_tree;
 use ir_module::Place;
 use std::alloc::Global;
 
+/// The tree and the places of a text of one block.
 fn parse(alloc: Global, bytes: &[u8]) -> Result<Parsed, Stop>
     requires { length bytes.now < 4294967295 }
     ensures parsed { IfOk result (λ parsed. Parses bytes.now parsed) }

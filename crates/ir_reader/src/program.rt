@@ -16,8 +16,19 @@ const HEAD: &[u8] = b"define i64 @main() #0 {\nentry:\n";
 const RET: &[u8] = b"  ret i64 0\n}\n";
 
 /// What stands between the body and the required number of qubits.
-const BEFORE_NUMBER: &[u8] =
-    b"declare void @__quantum__rt__initialize(i8*)\ndeclare %Qubit* @__quantum__rt__qubit_allocate()\ndeclare void @__quantum__rt__qubit_release(%Qubit*)\ndeclare i1 @__quantum__rt__read_result(%Result*)\ndeclare i1 @__quantum__rt__result_equal(%Result*, %Result*)\ndeclare void @__quantum__rt__result_record_output(%Result*, i8*)\ndeclare void @__quantum__qis__h__body(%Qubit*)\ndeclare void @__quantum__qis__x__body(%Qubit*)\ndeclare void @__quantum__qis__z__body(%Qubit*)\ndeclare void @__quantum__qis__cnot__body(%Qubit*, %Qubit*)\ndeclare void @__quantum__qis__phase__body(i64, %Qubit*)\ndeclare void @__quantum__qis__mz__body(%Qubit*, %Result*) #1\nattributes #0 = { \"entry_point\" \"required_num_qubits\"=\"";
+const BEFORE_NUMBER: &[u8] = b"declare void @__quantum__rt__initialize(i8*)\n\
+declare %Qubit* @__quantum__rt__qubit_allocate()\n\
+declare void @__quantum__rt__qubit_release(%Qubit*)\n\
+declare i1 @__quantum__rt__read_result(%Result*)\n\
+declare i1 @__quantum__rt__result_equal(%Result*, %Result*)\n\
+declare void @__quantum__rt__result_record_output(%Result*, i8*)\n\
+declare void @__quantum__qis__h__body(%Qubit*)\n\
+declare void @__quantum__qis__x__body(%Qubit*)\n\
+declare void @__quantum__qis__z__body(%Qubit*)\n\
+declare void @__quantum__qis__cnot__body(%Qubit*, %Qubit*)\n\
+declare void @__quantum__qis__phase__body(i64, %Qubit*)\n\
+declare void @__quantum__qis__mz__body(%Qubit*, %Result*) #1\n\
+attributes #0 = { \"entry_point\" \"required_num_qubits\"=\"";
 
 /// What follows the required number of qubits.
 const AFTER_NUMBER: &[u8] =

@@ -10,6 +10,7 @@ use ir_values::{Bytes, Copies, Int, Memory, Name, Seq, Ty, Tys, Value, Width};
 use itoa::Buffer;
 use std::alloc::Global;
 
+/// A copy of a text.
 fn bytes(alloc: Global, text: &[u8]) -> Result<Bytes, Memory>
     ensures { IfOk result (λ b. b ≡ text.now) }
 {
@@ -33,6 +34,7 @@ fn parameters(alloc: Global, mut types: &[Ty]) -> Result<Locals, Memory>
     Ok(locals)
 }
 
+/// A declaration of at most two parameters.
 fn declaration(
     alloc: Global,
     name: &[u8],
@@ -177,6 +179,7 @@ fn measurement(alloc: Global) -> Result<Function, Memory>
     )
 }
 
+/// An attribute with a value.
 fn attr(alloc: Global, key: &[u8], value: &[u8]) -> Result<Attr, Memory>
     ensures { IfOk result (λ a. a ≡ spec.attr key.now (Some value.now)) }
 {
@@ -217,6 +220,7 @@ fn entry_block(alloc: Global, insts: Insts) -> Result<Block, Memory>
     })
 }
 
+/// The entry of these lines and instructions.
 fn entry(alloc: Global, qubits: u64, lines: &[Line], insts: Insts) -> Result<Function, Memory>
     ensures { IfOk result (λ f. f ≡ parts.entry qubits lines.now insts) }
 {

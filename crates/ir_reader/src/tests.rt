@@ -27,7 +27,11 @@ fn join(alloc: Global, parts: &[&str]) -> Result<Bytes, Memory> {
 }
 
 /// What the reader answers on these parts of a text, one behind the other.
-fn answer(rt: &impl Abort, alloc: Global, parts: &[&str]) -> Result<Result<Parsed, ReadStop>, Fail> {
+fn answer(
+    rt: &impl Abort,
+    alloc: Global,
+    parts: &[&str],
+) -> Result<Result<Parsed, ReadStop>, Fail> {
     let text = join(alloc, parts)?;
     assert!(rt; text.len() < 100_000);
     Ok(read(alloc, text.as_slice()))
@@ -74,10 +78,12 @@ fn bodies_that_fit_are_read(rt: HostRuntime) -> Result<(), Fail> {
             2,
         ),
     ] {
-        let parsed = answer(&rt, rt.alloc(), [HEAD, body, DECLARATIONS, FOR_TWO, LAST].as_slice())?.expect(
+        let parsed = answer(
             &rt,
-            "a text of one block",
-        );
+            rt.alloc(),
+            [HEAD, body, DECLARATIONS, FOR_TWO, LAST].as_slice(),
+        )?
+        .expect(&rt, "a text of one block");
         assert_eq!(rt; sizes(&parsed).2, count, "in {body}");
     }
     Ok(())
@@ -118,7 +124,11 @@ fn bodies_that_do_not_fit_are_refused(rt: HostRuntime) -> Result<(), Fail> {
         "\n",
         "  ret i64 0\n",
     ] {
-        let answer = answer(&rt, rt.alloc(), [HEAD, body, DECLARATIONS, FOR_TWO, LAST].as_slice())?;
+        let answer = answer(
+            &rt,
+            rt.alloc(),
+            [HEAD, body, DECLARATIONS, FOR_TWO, LAST].as_slice(),
+        )?;
         assert!(rt; is_refused(&answer), "{body}");
     }
     Ok(())
@@ -147,10 +157,17 @@ fn other_heads_and_tails_are_refused(rt: HostRuntime) -> Result<(), Fail> {
         ),
         ("define i64 @main() #0 {\nbody:\n", FOR_TWO, LAST),
     ] {
-        let answer = answer(&rt, rt.alloc(), [head, DECLARATIONS, attributes, last].as_slice())?;
+        let answer = answer(
+            &rt,
+            rt.alloc(),
+            [head, DECLARATIONS, attributes, last].as_slice(),
+        )?;
         assert!(rt; is_refused(&answer), "{head}{attributes}{last}");
     }
-    assert!(rt; is_refused(&answer(&rt, rt.alloc(), [""].as_slice())?), "an empty text");
+    assert!(rt;
+        is_refused(&answer(&rt, rt.alloc(), [""].as_slice())?),
+        "an empty text"
+    );
     Ok(())
 }
 
@@ -160,7 +177,11 @@ fn the_greatest_number_of_qubits_is_read(rt: HostRuntime) -> Result<(), Fail> {
         "attributes #0 = { \"entry_point\" \"required_num_qubits\"=\"1000000000\" \"required_num_results\"=\"0\" }\n";
     let body =
         "  call void @__quantum__qis__h__body(%Qubit* inttoptr (i64 999999999 to %Qubit*))\n";
-    let answer = answer(&rt, rt.alloc(), [HEAD, body, DECLARATIONS, attributes, LAST].as_slice())?;
+    let answer = answer(
+        &rt,
+        rt.alloc(),
+        [HEAD, body, DECLARATIONS, attributes, LAST].as_slice(),
+    )?;
     let parsed = answer.expect(&rt, "a text of one block");
     assert_eq!(rt; sizes(&parsed), (13, 0, 1));
     Ok(())

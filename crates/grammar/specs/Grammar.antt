@@ -1,0 +1,45 @@
+-- Grammars as data.
+use Rattle.std.specs.Prelude.{ℕ, Bool, false, ◌||◌, nat_eq, Option, List, [], ◌∷◌}
+
+-- What a grammar speaks of: tokens, each of a kind that has a number, and what is said of a token that breaks a side rule.
+pub record Alphabet : Type 1 where
+  pub Token : Type 0
+  pub Rule : Type 0
+  pub kind : Token → ℕ
+
+-- A production. Each of its sentences has a tree in A.
+pub data Grammar (L : Alphabet) : Type 0 → Type 1 where
+  -- no token
+  nothing : {A : Type 0} → A → Grammar L A
+  -- one token of one of these kinds; the side rule tells what it breaks, if anything
+  tok : List ℕ → (L.Token → Option L.Rule) → Grammar L L.Token
+  -- the one and then the other
+  seq : {A B : Type 0} → Grammar L A → Grammar L B → Grammar L (A × B)
+  -- the one or the other
+  alt : {A : Type 0} → Grammar L A → Grammar L A → Grammar L A
+  -- at most once
+  opt : {A : Type 0} → Grammar L A → Grammar L (Option A)
+  -- any number of times
+  rep : {A : Type 0} → Grammar L A → Grammar L (List A)
+  -- the same sentences with other trees
+  as_tree : {A B : Type 0} → (A → B) → Grammar L A → Grammar L B
+  -- the one, and then what its tree asks for; the kinds are those by which a sentence may go on
+  dep : {A B : Type 0} → Grammar L A → List ℕ → (A → Grammar L B) → Grammar L (A × B)
+  -- any number of parts, each asked for by the tree so far, and giving the next; the kinds are those by which it may go on
+  grow : {A : Type 0} → A → List ℕ → (A → Grammar L A) → Grammar L A
+  -- the same sentences; a fault tells whether a part so labelled could begin at it
+  labelled : {A : Type 0} → Grammar L A → Grammar L A
+
+-- n is one of the numbers
+abbrev pub has : List ℕ → ℕ → Bool
+has [] n = false
+has (x ∷ xs) n = nat_eq x n || has xs n
+
+-- t is of one of the kinds
+abbrev pub is_in : (L : Alphabet) → L.Token → List ℕ → Bool
+is_in L t s = has s (L.kind t)
+
+-- the first token is of one of the kinds
+abbrev pub begins_with : (L : Alphabet) → List ℕ → List L.Token → Bool
+begins_with L s [] = false
+begins_with L s (t ∷ ts) = is_in L t s

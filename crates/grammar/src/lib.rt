@@ -1,0 +1,4 @@
+//! Grammars as data, and readers that answer exactly what a grammar says.
+#![tactic(auto)]
+
+pub mod fault;

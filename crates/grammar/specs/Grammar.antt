@@ -43,3 +43,6 @@ is_in L t s = has s (L.kind t)
 abbrev pub begins_with : (L : Alphabet) → List ℕ → List L.Token → Bool
 begins_with L s [] = false
 begins_with L s (t ∷ ts) = is_in L t s
+
+abbrev pub alphabet : (T R : Type 0) → (T → ℕ) → Alphabet
+alphabet T R k = record { Token = T; Rule = R; kind = k }

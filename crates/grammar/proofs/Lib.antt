@@ -5,3 +5,4 @@ pub mod Whole
 pub mod Swap
 pub mod Answer
 pub mod Steps
+pub mod Loop

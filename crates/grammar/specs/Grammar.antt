@@ -1,5 +1,5 @@
 -- Grammars as data.
-use Rattle.std.specs.Prelude.{ℕ, Bool, false, ◌||◌, nat_eq, Option, List, [], ◌∷◌}
+use Rattle.std.specs.Prelude.{ℕ, Bool, false, ◌||◌, nat_eq, Option, None, List, [], ◌∷◌}
 
 -- What a grammar speaks of: tokens, each of a kind that has a number, and what is said of a token that breaks a side rule.
 pub record Alphabet : Type 1 where
@@ -46,3 +46,7 @@ begins_with L s (t ∷ ts) = is_in L t s
 
 abbrev pub alphabet : (T R : Type 0) → (T → ℕ) → Alphabet
 alphabet T R k = record { Token = T; Rule = R; kind = k }
+
+-- no side rule
+abbrev pub any : {T R : Type 0} → T → Option R
+any t = None

@@ -3,3 +3,4 @@ pub mod Language
 pub mod LookAhead
 pub mod Reading
 pub mod Laws
+pub mod Clauses

@@ -1,0 +1,85 @@
+//! A place in a list of tokens, and what reading gives up with.
+ghost use Rattle.std.specs.Prelude.{◌≡◌, ℕ, Bool, nat_eq, [], ◌∷◌};
+ghost use Rattle.grammar.specs.Grammar.{alphabet, tok, any, begins_with};
+ghost use Rattle.grammar.specs.Clauses.{Gives};
+ghost use Rattle.grammar.specs.declared.cursor.Halt.TheVariants.{Memory};
+
+use crate::fault::Fault;
+use std::alloc::{AllocError, AllocFailed};
+
+/// A token of a kind.
+pub trait Terminal: Copy {
+    /// The kinds of tokens.
+    type Kind: Copy;
+
+    /// What is said of a token that breaks a side rule.
+    type Rule;
+
+    ghost kind: { Self → ℕ };
+
+    ghost code: { Self.Kind → ℕ };
+
+    /// Whether the token is of the kind.
+    fn is(&self, wanted: Self::Kind) -> bool
+        ensures { result ≡ nat_eq (code wanted) (kind self.now) };
+}
+
+/// A place in a list of tokens.
+#[derive(Debug, Drop)]
+pub struct Cursor<'a, T> {
+    /// The tokens that are left.
+    pub rest: &'a [T],
+    /// Whether a labelled part of the grammar might have begun here, beside what is looked for next.
+    pub labelled: bool,
+}
+
+/// What reading gives up with.
+#[derive(Debug, Drop)]
+pub enum Halt<'a, T, R> {
+    /// There is no memory left.
+    Memory,
+    /// The first fault. The rest begins with it.
+    At(Fault<R>, &'a [T]),
+}
+
+impl<T, R> From<AllocError> for Halt<'_, T, R> {
+    ghost from_gives = { λ _ e. e ≡ Memory };
+
+    fn from(_e: AllocError) -> Self {
+        Halt::Memory
+    }
+}
+
+impl<X: Drop, T, R> From<AllocFailed<X>> for Halt<'_, T, R> {
+    ghost from_gives = { λ _ e. e ≡ Memory };
+
+    fn from(_e: AllocFailed<X>) -> Self {
+        Halt::Memory
+    }
+}
+
+impl<'a, T: Terminal> Cursor<'a, T> {
+    /// Whether the next token is of the kind.
+    pub fn next_is(&self, kind: T::Kind) -> bool
+        ensures { result ≡ begins_with (alphabet T T.Rule T.kind) (T.code kind ∷ []) self.now.rest.now }
+    {
+        match self.rest {
+            [] => false,
+            [token, ..] => token.is(kind),
+        }
+    }
+
+    /// Takes the next token, which is to be of the kind.
+    pub fn take(&mut self, kind: T::Kind) -> Result<T, Halt<'a, T, T::Rule>>
+        ensures { Gives {L = alphabet T T.Rule T.kind} (λ t. t) (tok (T.code kind ∷ []) any) self.old self.new result }
+    {
+        match self.rest {
+            [token, rest @ ..] if token.is(kind) => {
+                self.rest = rest;
+                self.labelled = false;
+                Ok(*token)
+            }
+            _ => Err(Halt::At(Fault::Unexpected(self.labelled), self.rest)),
+        }
+    }
+}

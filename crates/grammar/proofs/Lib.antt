@@ -6,3 +6,4 @@ pub mod Swap
 pub mod Answer
 pub mod Steps
 pub mod Loop
+pub mod Forms

@@ -1,5 +1,5 @@
 -- Grammars as data.
-use Rattle.std.specs.Prelude.{ℕ, Bool, false, ◌||◌, nat_eq, Option, None, List, [], ◌∷◌}
+use Rattle.std.specs.Prelude.{ℕ, Bool, false, ◌||◌, nat_eq, Option, Some, None, List, [], ◌∷◌}
 
 -- What a grammar speaks of: tokens, each of a kind that has a number, and what is said of a token that breaks a side rule.
 pub record Alphabet : Type 1 where
@@ -50,3 +50,23 @@ alphabet T R k = record { Token = T; Rule = R; kind = k }
 -- no side rule
 abbrev pub any : {T R : Type 0} → T → Option R
 any t = None
+
+-- Forms that grammars share.
+
+abbrev pub cons : {A : Type 0} → A × List A → List A
+cons p = p.0 ∷ p.1
+
+abbrev pub second : {A B : Type 0} → A × B → B
+second p = p.1
+
+abbrev pub or_none : {A : Type 0} → Option (List A) → List A
+or_none None = []
+or_none (Some xs) = xs
+
+-- s a
+unfoldable pub preceded : {L : Alphabet} {A : Type 0} → List ℕ → Grammar L A → Grammar L A
+preceded {L} s a = as_tree second (seq (tok s any) a)
+
+-- [ a { s a } ]
+unfoldable pub listed : {L : Alphabet} {A : Type 0} → List ℕ → Grammar L A → Grammar L (List A)
+listed s a = as_tree or_none (opt (as_tree cons (seq a (rep (preceded s a)))))

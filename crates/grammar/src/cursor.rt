@@ -1,5 +1,5 @@
 //! A place in a list of tokens, and what reading gives up with.
-ghost use Rattle.std.specs.Prelude.{◌≡◌, ℕ, Bool, nat_eq, [], ◌∷◌};
+ghost use Rattle.std.specs.Prelude.{◌≡◌, ℕ, Bool, nat_eq, ◌||◌, [], ◌∷◌};
 ghost use Rattle.grammar.specs.Grammar.{alphabet, tok, any, begins_with};
 ghost use Rattle.grammar.specs.Clauses.{Gives};
 ghost use Rattle.grammar.specs.declared.cursor.Halt.TheVariants.{Memory};
@@ -55,6 +55,16 @@ impl<X: Drop, T, R> From<AllocFailed<X>> for Halt<'_, T, R> {
 
     fn from(_e: AllocFailed<X>) -> Self {
         Halt::Memory
+    }
+}
+
+impl<T> Cursor<'_, T> {
+    /// Passes over a part of the grammar that does not begin here; the flag says whether it may begin with a labelled one.
+    pub fn skip(&mut self, labelled: bool)
+        ensures rest { self.new.rest ≡ self.old.rest }
+        ensures labelled { self.new.labelled ≡ (self.old.labelled || labelled) }
+    {
+        self.labelled = self.labelled || labelled;
     }
 }
 

@@ -10,7 +10,7 @@ use Rattle.grammar.proofs.part.repeat.Goals as goal
 pub loop-alloc-smaller : goal.loop-alloc-smaller
 loop-alloc-smaller g c =
     let p = c.args.part.now in
-    shorter _ (g.P.Part.grammar p) (g.P.Part.decided p) c.loop-alloc.cursor.labelled c.loop-alloc.cursor.rest.now _ _ _ (sym c.begins.ensures ∙ c.loop-alloc-test.true) c.in_ok-item.ensures
+    shorter _ (g.P.Part.grammar p) (g.P.Part.decided p).0 c.loop-alloc.cursor.labelled c.loop-alloc.cursor.rest.now _ _ _ (sym c.begins.ensures ∙ c.loop-alloc-test.true) c.in_ok-item.ensures
 
 pub loop-alloc-preserved : goal.loop-alloc-preserved
 loop-alloc-preserved g c =
@@ -20,4 +20,4 @@ loop-alloc-preserved g c =
     let v = c.in_ok-item.item in
     let e : c.push.new.self.items ≡ vs ++ v ∷ [] = c.in_ok-push.ensures.items in
     ap (λ z. read (as_tree (λ xs. map view z ++ xs) (rep (g.P.Part.grammar p))) c.read.new.cursor.labelled c.read.new.cursor.rest.now) e
-    ∙ (sym (goes_on _ (g.P.Part.grammar p) (g.P.Part.decided p) (λ xs. map view vs ++ xs) (λ xs. map view (vs ++ v ∷ []) ++ xs) (view v) c.loop-alloc.cursor.labelled c.loop-alloc.cursor.rest.now c.read.new.cursor.labelled c.read.new.cursor.rest.now (λ xs. sym (one_more view vs v xs)) (sym c.begins.ensures ∙ c.loop-alloc-test.true) c.in_ok-item.ensures) ∙ c.loop-alloc.invariant)
+    ∙ (sym (goes_on _ (g.P.Part.grammar p) (g.P.Part.decided p).0 (λ xs. map view vs ++ xs) (λ xs. map view (vs ++ v ∷ []) ++ xs) (view v) c.loop-alloc.cursor.labelled c.loop-alloc.cursor.rest.now c.read.new.cursor.labelled c.read.new.cursor.rest.now (λ xs. sym (one_more view vs v xs)) (sym c.begins.ensures ∙ c.loop-alloc-test.true) c.in_ok-item.ensures) ∙ c.loop-alloc.invariant)

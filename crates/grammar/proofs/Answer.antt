@@ -10,8 +10,8 @@ use Rattle.grammar.specs.Reading.{Out, Got, Stop, Read, then_do, kept, read_one,
 use Rattle.grammar.specs.Laws.{HoldsOnce}
 use Rattle.grammar.proofs.Basics.{no_parts, append_none, ends_none, true_false}
 use Rattle.grammar.proofs.Swap.{Swapped, FaultFact, LabelFact, swaps, alike, alike_for}
-use Rattle.grammar.proofs.Exact.{Shows, Ends, EndsFor}
-use Rattle.grammar.proofs.Whole.{derives_read, front_read}
+use Rattle.grammar.proofs.Begin.{Shows, Ends, EndsFor}
+use Rattle.grammar.proofs.Complete.{derives_read, front_read}
 
 module _ (L : Alphabet) where
   -- a sentence is a Front

@@ -1,9 +1,10 @@
 pub mod Basics
 pub mod Going
-pub mod Exact
-pub mod Whole
+pub mod Begin
+pub mod Complete
 pub mod Swap
 pub mod Answer
 pub mod Steps
 pub mod Loop
 pub mod Forms
+pub mod Top

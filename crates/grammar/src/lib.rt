@@ -5,3 +5,4 @@ pub mod cursor;
 pub mod fault;
 pub mod laws;
 pub mod part;
+pub mod whole;

@@ -8,7 +8,7 @@ use Rattle.grammar.specs.LookAhead.{nullable, firsts, extensions, labels, apart,
 use Rattle.grammar.specs.Language.{Sentence, both, maybe, many, steps, last_of, growth, Derives, Ending, Fine, Labelled, Breaks, Prefixes, one, empty_front, label_front, both_front, many_front, growth_front, Front}
 use Rattle.grammar.specs.Reading.{Out, Got, Stop, Read, then_do, kept, read_one, read_both, read_maybe, read_many, read_growth, read}
 use Rattle.grammar.proofs.Basics.{no_parts, or_true, or_false, or_cases, and_cases, has-append, begins-append, apart_one, within_one, append_none, ends_none, true_false, or_right}
-use Rattle.grammar.proofs.Exact.{Shows, Ends, then_ends, at_end, derives_none, never_none, derives_first, front_first, front_none, many_begin, many_front_first, shows_more, shows_eq, growth_begin, growth_front_first}
+use Rattle.grammar.proofs.Begin.{Shows, Ends, then_ends, at_end, derives_none, never_none, derives_first, front_first, front_none, many_begin, many_front_first, shows_more, shows_eq, growth_begin, growth_front_first}
 
 module _ (L : Alphabet) where
   abbrev IsRead : {A : Type 0} → Read L A → Bool → List L.Token → A → List L.Token → Type 0

@@ -70,3 +70,7 @@ preceded {L} s a = as_tree second (seq (tok s any) a)
 -- [ a { s a } ]
 unfoldable pub listed : {L : Alphabet} {A : Type 0} → List ℕ → Grammar L A → Grammar L (List A)
 listed s a = as_tree or_none (opt (as_tree cons (seq a (rep (preceded s a)))))
+
+-- a, and then parts that grow on it
+abbrev pub grown : {L : Alphabet} {A : Type 0} → Grammar L A → List ℕ → (A → Grammar L A) → Grammar L A
+grown a s f = as_tree second (dep a s (λ x. grow x s f))

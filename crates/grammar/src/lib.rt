@@ -3,6 +3,7 @@
 
 pub mod cursor;
 pub mod fault;
+pub mod growth;
 pub mod laws;
 pub mod part;
 pub mod whole;

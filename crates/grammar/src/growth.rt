@@ -1,0 +1,64 @@
+//! A loop that reads parts each of which is asked for by what was read before.
+ghost use Rattle.std.specs.Prelude.{◌≡◌, ℕ, List};
+ghost use Rattle.grammar.specs.Grammar.{Grammar, alphabet, grow, begins_with};
+ghost use Rattle.grammar.specs.LookAhead.{LL1, firsts, labels};
+ghost use Rattle.grammar.specs.Clauses.{Gives};
+
+use crate::cursor::{Cursor, Halt};
+use std::alloc::Global;
+
+/// A part that grows on what was read: what may come next is asked for by the tree so far, and gives the next one.
+pub trait Growth {
+    /// The tokens of the grammar.
+    type Token;
+    /// What is said of a token that breaks a side rule.
+    type Rule;
+    /// What a sentence stands for.
+    type Tree;
+    /// What is made of a sentence.
+    type Item: Drop;
+
+    ghost kind: { Self.Token → ℕ };
+
+    ghost grows: { Self → Self.Tree → Grammar (alphabet Self.Token Self.Rule kind) Self.Tree };
+
+    ghost view: { Self.Item → Self.Tree };
+
+    ghost extensions: { List ℕ };
+
+    ghost decided: { (growth : Self) (tree : Self.Tree) → LL1 (grows growth tree) };
+
+    /// Whether one more part begins here.
+    fn begins(&self, item: &Self::Item, cursor: &Cursor<'_, Self::Token>) -> bool
+        ensures { result ≡ begins_with (alphabet Self.Token Self.Rule kind) (firsts (grows self.now (view item.now))) cursor.now.rest.now };
+
+    /// Whether one more part may begin with a labelled one.
+    fn labelled(&self, item: &Self::Item) -> bool
+        ensures { result ≡ labels (grows self.now (view item.now)) };
+
+    /// Reads one more part.
+    fn read<'a>(
+        &self,
+        alloc: Global,
+        item: Self::Item,
+        cursor: &mut Cursor<'a, Self::Token>,
+    ) -> Result<Self::Item, Halt<'a, Self::Token, Self::Rule>>
+        ensures { Gives view (grows self.now (view item)) cursor.old cursor.new result };
+}
+
+/// Reads parts from `start` on, each asked for by what was read before.
+pub fn grow<'a, G: Growth>(
+    alloc: Global,
+    growth: &G,
+    start: G::Item,
+    cursor: &mut Cursor<'a, G::Token>,
+) -> Result<G::Item, Halt<'a, G::Token, G::Rule>>
+    ensures { Gives G.view (grow (G.view start) G.extensions (G.grows growth.now)) cursor.old cursor.new result }
+{
+    let mut item = start;
+    while growth.begins(&item, cursor) {
+        item = growth.read(alloc, item, cursor)?;
+    }
+    cursor.skip(growth.labelled(&item));
+    Ok(item)
+}

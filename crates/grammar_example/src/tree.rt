@@ -1,0 +1,28 @@
+//! Trees.
+
+/// A type without its stars.
+#[derive(Clone, Copy, Debug, PartialEq, Eq)]
+pub enum Base {
+    Int,
+    Bool,
+}
+
+/// A type: a base, and how often a star stands behind it.
+#[derive(Clone, Copy, Debug, PartialEq, Eq)]
+pub struct Type {
+    pub base: Base,
+    pub stars: u64,
+}
+
+#[derive(Clone, Copy, Debug, PartialEq, Eq)]
+pub enum Value {
+    Number(u64),
+    Truth(bool),
+    Null,
+}
+
+#[derive(Debug, Drop)]
+pub enum Item {
+    Const(u64, Type, Value),
+    Function(u64, Vec<Type>, Option<Type>),
+}

@@ -1,7 +1,8 @@
 //! A place in a list of tokens, and what reading gives up with.
-ghost use Rattle.std.specs.Prelude.{◌≡◌, ℕ, Bool, nat_eq, ◌||◌, [], ◌∷◌};
+ghost use Rattle.std.specs.Prelude.{◌≡◌, ℕ, Bool, nat_eq, Some, ◌||◌, [], ◌∷◌};
 ghost use Rattle.grammar.specs.Grammar.{alphabet, tok, any, begins_with};
-ghost use Rattle.grammar.specs.Clauses.{Gives};
+ghost use Rattle.grammar.specs.Clauses.{Gives, Fails};
+ghost use Rattle.grammar.specs.Reading.{read};
 ghost use Rattle.grammar.specs.declared.cursor.Halt.TheVariants.{Memory};
 
 use crate::fault::Fault;
@@ -13,7 +14,7 @@ pub trait Terminal: Copy {
     type Kind: Copy;
 
     /// What is said of a token that breaks a side rule.
-    type Rule;
+    type Rule: Drop;
 
     ghost kind: { Self → ℕ };
 
@@ -91,5 +92,16 @@ impl<'a, T: Terminal> Cursor<'a, T> {
             }
             _ => Err(Halt::At(Fault::Unexpected(self.labelled), self.rest)),
         }
+    }
+
+    /// Refuses the next token: one of the kind breaks the side rule, and no other may stand here.
+    pub fn refuse(&self, kind: T::Kind, rule: T::Rule) -> Halt<'a, T, T::Rule>
+        ensures reads { Fails {L = alphabet T T.Rule T.kind} result (read (tok (T.code kind ∷ []) (λ _. Some rule)) self.now.labelled self.now.rest.now) }
+        ensures is_fault { (result ≡ Memory) → ⊥ }
+    {
+        if self.next_is(kind) {
+            return Halt::At(Fault::Broken(rule), self.rest);
+        }
+        Halt::At(Fault::Unexpected(self.labelled), self.rest)
     }
 }

@@ -12,7 +12,7 @@ pub trait Growth {
     /// The tokens of the grammar.
     type Token;
     /// What is said of a token that breaks a side rule.
-    type Rule;
+    type Rule: Drop;
     /// What a sentence stands for.
     type Tree;
     /// What is made of a sentence.

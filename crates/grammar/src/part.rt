@@ -13,7 +13,7 @@ pub trait Part {
     /// The tokens of the grammar.
     type Token;
     /// What is said of a token that breaks a side rule.
-    type Rule;
+    type Rule: Drop;
     /// What a sentence stands for.
     type Tree;
     /// What is made of a sentence.

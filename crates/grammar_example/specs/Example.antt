@@ -1,5 +1,5 @@
 -- The grammar.
-use Rattle.std.specs.Prelude.{ℕ, ◌+◌, true, false, if◌then◌else◌, nat_eq, nat_lt, Option, Some, None, List, [], ◌∷◌, map, Vec}
+use Rattle.std.specs.Prelude.{ℕ, ◌+◌, Bool, true, false, if◌then◌else◌, nat_eq, nat_lt, Option, Some, None, List, [], ◌∷◌, map, Vec}
 use Rattle.grammar.specs.Grammar.{Alphabet, Grammar, alphabet, nothing, tok, seq, alt, opt, rep, as_tree, dep, grow, grown, labelled, any, second, listed}
 use Rattle.grammar_example.specs.declared.token.Kind.{Kind}
 use Rattle.grammar_example.specs.declared.token.Kind.TheVariants as kind
@@ -8,7 +8,7 @@ use Rattle.grammar_example.specs.declared.token.Rule.{Rule}
 use Rattle.grammar_example.specs.declared.token.Rule.TheVariants.{TooGreat, TooDeep}
 use Rattle.grammar_example.specs.declared.tree.Base.{Base}
 use Rattle.grammar_example.specs.declared.tree.Base.TheVariants as base
-use Rattle.grammar_example.specs.declared.tree.Type.{Type}
+use Rattle.grammar_example.specs.declared.tree.ValueType.{ValueType}
 use Rattle.grammar_example.specs.declared.tree.Value.{Value}
 use Rattle.grammar_example.specs.declared.tree.Value.TheVariants as value
 use Rattle.grammar_example.specs.declared.tree.Item.{Item}
@@ -17,8 +17,8 @@ use Rattle.grammar_example.specs.Kinds.{code}
 
 -- What the items stand for.
 pub data ItemTree : Type 0 where
-  ConstTree : ℕ → Type → Value → ItemTree
-  FunctionTree : ℕ → List Type → Option Type → ItemTree
+  ConstTree : ℕ → ValueType → Value → ItemTree
+  FunctionTree : ℕ → List ValueType → Option ValueType → ItemTree
 
 abbrev pub view : Item → ItemTree
 view (item.Const name type value) = ConstTree name type value
@@ -43,18 +43,18 @@ unfoldable pub name : Grammar tokens ℕ
 name = as_tree (λ t. t.value) (one kind.Name)
 
 -- "*", behind a type that has at most one
-unfoldable pub star : Type → Grammar tokens Type
+unfoldable pub star : ValueType → Grammar tokens ValueType
 star x = as_tree (λ t. record { base = x.base; stars = x.stars + 1 }) (tok (9 ∷ []) (not_deep x.stars))
 
-abbrev pub plain : Base → Type
+abbrev pub plain : Base → ValueType
 plain b = record { base = b; stars = 0 }
 
 -- base = "int" | "bool"
-unfoldable pub base_type : Grammar tokens Type
+unfoldable pub base_type : Grammar tokens ValueType
 base_type = alt (as_tree (λ t. plain base.Int) (one kind.Int)) (as_tree (λ t. plain base.Bool) (one kind.Bool))
 
 -- type = base { "*" }
-unfoldable pub type_of : Grammar tokens Type
+unfoldable pub type_of : Grammar tokens ValueType
 type_of = labelled (grown base_type (9 ∷ []) star)
 
 unfoldable pub truth : Grammar tokens Value
@@ -63,16 +63,18 @@ truth = alt (as_tree (λ t. value.Truth true) (one kind.Yes)) (as_tree (λ t. va
 unfoldable pub number : Grammar tokens Value
 number = as_tree (λ t. value.Number t.value) (tok (3 ∷ []) in_range)
 
-abbrev pub plain_value : Base → Grammar tokens Value
-plain_value base.Int = number
-plain_value base.Bool = truth
+-- of a base, with no star behind it or with some
+abbrev pub value_at : Bool → Base → Grammar tokens Value
+value_at true base.Int = number
+value_at true base.Bool = truth
+value_at false b = as_tree (λ t. value.Null) (one kind.Null)
 
 -- a value of a type: a number, "yes" or "no", or "null" where it has a star
-unfoldable pub value_of : Type → Grammar tokens Value
-value_of x = if nat_eq x.stars 0 then plain_value x.base else as_tree (λ t. value.Null) (one kind.Null)
+unfoldable pub value_of : ValueType → Grammar tokens Value
+value_of x = value_at (nat_eq x.stars 0) x.base
 
 -- "=" value(type)
-unfoldable pub set : Type → Grammar tokens Value
+unfoldable pub set : ValueType → Grammar tokens Value
 set x = as_tree second (seq (one kind.Equals) (value_of x))
 
 -- const = "const" name ":" type "=" value(type) ";"
@@ -80,12 +82,12 @@ unfoldable pub constant : Grammar tokens ItemTree
 constant = as_tree (λ p. ConstTree p.1.0 p.1.1.1.0.0 p.1.1.1.0.1) (seq (one kind.Const) (seq name (seq (one kind.Colon) (seq (dep type_of [] set) (one kind.Semicolon)))))
 
 -- result = [ ":" type ]
-unfoldable pub result : Grammar tokens (Option Type)
-result = opt (as_tree second (seq (one kind.Colon) type_of))
+unfoldable pub result_of : Grammar tokens (Option ValueType)
+result_of = opt (as_tree second (seq (one kind.Colon) type_of))
 
 -- function = "fn" name "(" [ type { "," type } ] ")" [ ":" type ] ";"
 unfoldable pub function : Grammar tokens ItemTree
-function = as_tree (λ p. FunctionTree p.1.0 p.1.1.1.0 p.1.1.1.1.1.0) (seq (one kind.Function) (seq name (seq (one kind.Open) (seq (listed (11 ∷ []) type_of) (seq (one kind.Close) (seq result (one kind.Semicolon)))))))
+function = as_tree (λ p. FunctionTree p.1.0 p.1.1.1.0 p.1.1.1.1.1.0) (seq (one kind.Function) (seq name (seq (one kind.Open) (seq (listed (11 ∷ []) type_of) (seq (one kind.Close) (seq result_of (one kind.Semicolon)))))))
 
 -- item = const | function
 unfoldable pub item_of : Grammar tokens ItemTree

@@ -9,7 +9,7 @@ pub enum Base {
 
 /// A type: a base, and how often a star stands behind it.
 #[derive(Clone, Copy, Debug, PartialEq, Eq)]
-pub struct Type {
+pub struct ValueType {
     pub base: Base,
     pub stars: u64,
 }
@@ -23,6 +23,6 @@ pub enum Value {
 
 #[derive(Debug, Drop)]
 pub enum Item {
-    Const(u64, Type, Value),
-    Function(u64, Vec<Type>, Option<Type>),
+    Const(u64, ValueType, Value),
+    Function(u64, Vec<ValueType>, Option<ValueType>),
 }

@@ -13,20 +13,20 @@ pub trait Growth {
     type Token;
     /// What is said of a token that breaks a side rule.
     type Rule: Drop;
-    /// What a sentence stands for.
-    type Tree;
     /// What is made of a sentence.
     type Item: Drop;
 
     ghost kind: { Self.Token → ℕ };
 
-    ghost grows: { Self → Self.Tree → Grammar (alphabet Self.Token Self.Rule kind) Self.Tree };
+    ghost Tree: { Type 0 };
 
-    ghost view: { Self.Item → Self.Tree };
+    ghost grows: { Self → Tree → Grammar (alphabet Self.Token Self.Rule kind) Tree };
+
+    ghost view: { Self.Item → Tree };
 
     ghost extensions: { List ℕ };
 
-    ghost decided: { (growth : Self) (tree : Self.Tree) → LL1 (grows growth tree) };
+    ghost decided: { (growth : Self) (tree : Tree) → LL1 (grows growth tree) };
 
     /// Whether one more part begins here.
     fn begins(&self, item: &Self::Item, cursor: &Cursor<'_, Self::Token>) -> bool

@@ -10,12 +10,12 @@ pub trait Language {
     type Token;
     /// What is said of a token that breaks a side rule.
     type Rule;
-    /// What a sentence stands for.
-    type Tree;
 
     ghost kind: { Self.Token → ℕ };
 
-    ghost grammar: { Grammar (alphabet Self.Token Self.Rule kind) Self.Tree };
+    ghost Tree: { Type 0 };
+
+    ghost grammar: { Grammar (alphabet Self.Token Self.Rule kind) Tree };
 
     ghost decided: { LL1 grammar };
 }

@@ -14,16 +14,16 @@ pub trait Part {
     type Token;
     /// What is said of a token that breaks a side rule.
     type Rule: Drop;
-    /// What a sentence stands for.
-    type Tree;
     /// What is made of a sentence.
     type Item: Drop;
 
     ghost kind: { Self.Token → ℕ };
 
-    ghost grammar: { Self → Grammar (alphabet Self.Token Self.Rule kind) Self.Tree };
+    ghost Tree: { Type 0 };
 
-    ghost view: { Self.Item → Self.Tree };
+    ghost grammar: { Self → Grammar (alphabet Self.Token Self.Rule kind) Tree };
+
+    ghost view: { Self.Item → Tree };
 
     ghost decided: { (part : Self) → LL1 (opt (grammar part)) };
 

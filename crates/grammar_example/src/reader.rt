@@ -1,17 +1,20 @@
 //! The reader: a function for each production.
-ghost use Rattle.std.specs.Prelude.{◌≡◌, ℕ, [], ◌∷◌, map};
+ghost use Rattle.std.specs.Prelude.{◌≡◌, ℕ, List, [], ◌∷◌, map};
 ghost use Rattle.grammar.specs.Grammar.{alphabet, rep, grow, listed, begins_with};
 ghost use Rattle.grammar.specs.LookAhead.{LL1, firsts, labels};
 ghost use Rattle.grammar.specs.Clauses.{Gives, Answers};
+ghost use Rattle.grammar_example.specs.declared.tree.ValueType.{ValueType};
 ghost use Rattle.grammar_example.specs.Kinds.{code};
-ghost use Rattle.grammar_example.specs.Decided.{star_decided};
-ghost use Rattle.grammar_example.specs.Example.{view, one, name, star, base_type, type_of, truth, number, value_of, set, constant, result_of, function, item_of, program};
+ghost use Rattle.grammar_example.specs.Decided.{star_decided, type_decided, item_decided, program_decided};
+ghost use Rattle.grammar_example.specs.Example.{ItemTree, view, one, name, star, base_type, type_of, truth, number, value_of, set, constant, result_of, function, item_of, program};
 
 use crate::token::{Kind, Rule, Token};
 use crate::tree::{Base, Item, Value, ValueType};
 use grammar::cursor::{Cursor, Halt};
 use grammar::fault::Fault;
 use grammar::growth::{Growth, grow};
+use grammar::part::{Listed, Part, repeat, separated};
+use grammar::whole::{Refusal, read_all};
 use std::alloc::Global;
 
 type Stop<'a> = Halt<'a, Token, Rule>;
@@ -81,10 +84,11 @@ struct Stars;
 impl Growth for Stars {
     type Token = Token;
     type Rule = Rule;
-    type Tree = ValueType;
     type Item = ValueType;
 
     ghost kind = { λ t. code t.kind };
+
+    ghost Tree = { ValueType };
 
     ghost grows = { λ _ x. star x };
 
@@ -146,4 +150,174 @@ fn set<'a>(ty: ValueType, cursor: &mut Cursor<'a, Token>) -> Result<Value, Stop<
 {
     cursor.take(Kind::Equals)?;
     value(ty, cursor)
+}
+
+#[tactic(auto, unfolding(crate::specs::Example::constant))]
+fn constant<'a>(alloc: Global, cursor: &mut Cursor<'a, Token>) -> Result<Item, Stop<'a>>
+    ensures { Gives view constant cursor.old cursor.new result }
+{
+    cursor.take(Kind::Const)?;
+    let name = name(cursor)?;
+    cursor.take(Kind::Colon)?;
+    let ty = type_of(alloc, cursor)?;
+    let value = set(ty, cursor)?;
+    cursor.take(Kind::Semicolon)?;
+    Ok(Item::Const(name, ty, value))
+}
+
+/// The types of parameters.
+struct Params;
+
+impl Part for Params {
+    type Token = Token;
+    type Rule = Rule;
+    type Item = ValueType;
+
+    ghost kind = { λ t. code t.kind };
+
+    ghost Tree = { ValueType };
+
+    ghost grammar = { λ _. type_of };
+
+    ghost view = { λ x. x };
+
+    ghost decided = { λ _. type_decided };
+
+    #[tactic(auto, unfolding(crate::specs::Example::type_of, crate::specs::Example::base_type))]
+    fn begins(&self, cursor: &Cursor<'_, Token>) -> bool {
+        cursor.next_is(Kind::Int) || cursor.next_is(Kind::Bool)
+    }
+
+    #[tactic(auto, unfolding(crate::specs::Example::type_of))]
+    fn labelled(&self) -> bool {
+        true
+    }
+
+    fn read<'a>(
+        &self,
+        alloc: Global,
+        cursor: &mut Cursor<'a, Token>,
+    ) -> Result<ValueType, Stop<'a>> {
+        type_of(alloc, cursor)
+    }
+}
+
+impl Listed for Params {
+    ghost separator = { 11 };
+
+    fn separates(&self, cursor: &Cursor<'_, Token>) -> bool {
+        cursor.next_is(Kind::Comma)
+    }
+}
+
+#[tactic(auto, unfolding(crate::specs::Example::result_of))]
+fn result_of<'a>(
+    alloc: Global,
+    cursor: &mut Cursor<'a, Token>,
+) -> Result<Option<ValueType>, Stop<'a>>
+    ensures { Gives (λ x. x) result_of cursor.old cursor.new result }
+{
+    if !cursor.next_is(Kind::Colon) {
+        return Ok(None);
+    }
+    cursor.take(Kind::Colon)?;
+    Ok(Some(type_of(alloc, cursor)?))
+}
+
+#[tactic(auto, unfolding(crate::specs::Example::function))]
+fn function<'a>(alloc: Global, cursor: &mut Cursor<'a, Token>) -> Result<Item, Stop<'a>>
+    ensures { Gives view function cursor.old cursor.new result }
+{
+    cursor.take(Kind::Function)?;
+    let name = name(cursor)?;
+    cursor.take(Kind::Open)?;
+    let params = separated(alloc, &Params, cursor)?;
+    cursor.take(Kind::Close)?;
+    let result = result_of(alloc, cursor)?;
+    cursor.take(Kind::Semicolon)?;
+    Ok(Item::Function(name, params, result))
+}
+
+/// The items of a program.
+struct Items;
+
+impl Part for Items {
+    type Token = Token;
+    type Rule = Rule;
+    type Item = Item;
+
+    ghost kind = { λ t. code t.kind };
+
+    ghost Tree = { ItemTree };
+
+    ghost grammar = { λ _. item_of };
+
+    ghost view = { view };
+
+    ghost decided = { λ _. item_decided };
+
+    #[tactic(auto, unfolding(crate::specs::Example::item_of, crate::specs::Example::constant, crate::specs::Example::function))]
+    fn begins(&self, cursor: &Cursor<'_, Token>) -> bool {
+        cursor.next_is(Kind::Const) || cursor.next_is(Kind::Function)
+    }
+
+    #[tactic(auto, unfolding(crate::specs::Example::item_of, crate::specs::Example::constant, crate::specs::Example::function))]
+    fn labelled(&self) -> bool {
+        false
+    }
+
+    #[tactic(auto, unfolding(crate::specs::Example::item_of, crate::specs::Example::constant, crate::specs::Example::function))]
+    fn read<'a>(&self, alloc: Global, cursor: &mut Cursor<'a, Token>) -> Result<Item, Stop<'a>> {
+        if cursor.next_is(Kind::Const) {
+            return constant(alloc, cursor);
+        }
+        function(alloc, cursor)
+    }
+}
+
+/// A whole program.
+struct Program;
+
+impl Part for Program {
+    type Token = Token;
+    type Rule = Rule;
+    type Item = Vec<Item>;
+
+    ghost kind = { λ t. code t.kind };
+
+    ghost Tree = { List ItemTree };
+
+    ghost grammar = { λ _. program };
+
+    ghost view = { λ v. map view v.items };
+
+    ghost decided = { λ _. program_decided };
+
+    #[tactic(auto, unfolding(crate::specs::Example::program, crate::specs::Example::item_of, crate::specs::Example::constant, crate::specs::Example::function))]
+    fn begins(&self, cursor: &Cursor<'_, Token>) -> bool {
+        cursor.next_is(Kind::Const) || cursor.next_is(Kind::Function) || cursor.next_is(Kind::End)
+    }
+
+    #[tactic(auto, unfolding(crate::specs::Example::program, crate::specs::Example::item_of, crate::specs::Example::constant, crate::specs::Example::function))]
+    fn labelled(&self) -> bool {
+        false
+    }
+
+    #[tactic(auto, unfolding(crate::specs::Example::program))]
+    fn read<'a>(
+        &self,
+        alloc: Global,
+        cursor: &mut Cursor<'a, Token>,
+    ) -> Result<Vec<Item>, Stop<'a>> {
+        let items = repeat(alloc, &Items, cursor)?;
+        cursor.take(Kind::End)?;
+        Ok(items)
+    }
+}
+
+/// The items that the tokens spell, or the first fault of the tokens and how many stand before it.
+pub fn read(alloc: Global, tokens: &[Token]) -> Result<Vec<Item>, Refusal<Rule>>
+    ensures { Answers (λ v. map view v.items) program tokens.now result }
+{
+    read_all(alloc, &Program, tokens)
 }

@@ -44,7 +44,7 @@ module _ (L : Alphabet) where
 
   -- one list cut twice
 
-  split_cases : (us rest vs left : List L.Token) → us ++ rest ≡ vs ++ left → ((us ≡ vs) × (rest ≡ left)) ⊎ (((t : L.Token) × (w : List L.Token) × (vs ≡ us ++ t ∷ w) × (rest ≡ t ∷ (w ++ left))) ⊎ ((t : L.Token) × (w : List L.Token) × (us ≡ vs ++ t ∷ w) × (left ≡ t ∷ (w ++ rest))))
+  pub split_cases : (us rest vs left : List L.Token) → us ++ rest ≡ vs ++ left → ((us ≡ vs) × (rest ≡ left)) ⊎ (((t : L.Token) × (w : List L.Token) × (vs ≡ us ++ t ∷ w) × (rest ≡ t ∷ (w ++ left))) ⊎ ((t : L.Token) × (w : List L.Token) × (us ≡ vs ++ t ∷ w) × (left ≡ t ∷ (w ++ rest))))
   split_cases [] rest [] left e = inl (refl, e)
   split_cases [] rest (v ∷ vs) left e = inr (inl (v, vs, refl, e))
   split_cases (u ∷ us) rest [] left e = inr (inr (u, us, refl, sym e))
@@ -84,7 +84,7 @@ module _ (L : Alphabet) where
     label_wrong : (us : List L.Token) (d : Bool) → read g false us ≡ Stop (Unexpected d) [] → Front g Labelled us → d ≡ true
     label_wrong us d h f = (subst (Ends L Labelled) h (front_read L g p Labelled us f false)).1
 
-    label_says : (us : List L.Token) (d : Bool) → LabelFact L (Front g) false us d → d ≡ true → Front g Labelled us
+    pub label_says : (us : List L.Token) (d : Bool) → LabelFact L (Front g) false us d → d ≡ true → Front g Labelled us
     label_says us d h e = go (h e)
       where
         go : ((us ≡ []) × (false ≡ true)) ⊎ Front g Labelled us → Front g Labelled us
@@ -155,7 +155,7 @@ module _ (L : Alphabet) where
         let h = derives_read L g p ts x w false [] refl in
         ap (answered ts) (ap (read g false) (sym (append_none ts)) ∙ h.1)
 
-    front_prefix : (xs ys : List L.Token) → Front g Fine (xs ++ ys) → Front g Fine xs
+    pub front_prefix : (xs ys : List L.Token) → Front g Fine (xs ++ ys) → Front g Fine xs
     front_prefix xs ys f = go (read g false xs) (swaps L g p false xs)
       where
         longer : (us : List L.Token) (t : L.Token) (v : List L.Token) → xs ≡ us ++ t ∷ v → Front g Fine (us ++ (t ∷ v ++ ys))

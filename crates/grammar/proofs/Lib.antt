@@ -8,3 +8,5 @@ pub mod Steps
 pub mod Loop
 pub mod Forms
 pub mod Top
+pub mod Bare
+pub mod Same

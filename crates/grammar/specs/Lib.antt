@@ -4,3 +4,4 @@ pub mod LookAhead
 pub mod Reading
 pub mod Laws
 pub mod Clauses
+pub mod Aside

@@ -58,7 +58,7 @@ module _ (L : Alphabet) where
       go (inr (inl h)) = inr (inl (h.0, h.1, (let i = h.2 in let j = same in cc), h.3))
       go (inr (inr h)) = inr (inr (h.0, h.1, (let i = h.2 in let j = same in cc), h.3))
 
-  last_same : (us vs : List L.Token) (t u : L.Token) → us ++ t ∷ [] ≡ vs ++ u ∷ [] → (us ≡ vs) × (t ≡ u)
+  pub last_same : (us vs : List L.Token) (t u : L.Token) → us ++ t ∷ [] ≡ vs ++ u ∷ [] → (us ≡ vs) × (t ≡ u)
   last_same [] [] t u e = (refl, cc)
   last_same [] (v ∷ vs) t u e = absurd (omega (arith, ap length e, length-append vs (u ∷ [])))
   last_same (x ∷ us) [] t u e = absurd (omega (arith, ap length e, length-append us (t ∷ [])))
@@ -94,7 +94,7 @@ module _ (L : Alphabet) where
     taken_length : (ts us rest : List L.Token) → ts ≡ us ++ rest → length ts - length rest ≡ length us
     taken_length ts us rest e = omega (arith, ap length e, length-append us rest)
 
-    same_flag : (d e : Bool) → (d ≡ true → e ≡ true) → (e ≡ true → d ≡ true) → d ≡ e
+    pub same_flag : (d e : Bool) → (d ≡ true → e ≡ true) → (e ≡ true → d ≡ true) → d ≡ e
     same_flag true e f k = sym (f refl)
     same_flag false true f k = k refl
     same_flag false false f k = refl

@@ -10,3 +10,4 @@ pub mod Forms
 pub mod Top
 pub mod Bare
 pub mod Same
+pub mod Joined

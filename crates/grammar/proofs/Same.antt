@@ -44,7 +44,7 @@ module _ (L : Alphabet) {A : Type 0} (g : Grammar L A) (p : LL1 g) where
 
   -- what a reading to the end says
 
-  fine_of : (us : List L.Token) (o : Out L A) → Ends L Fine o → Swapped L (Derives g) (Front g) (read g) false us o → Front g Fine us
+  pub fine_of : (us : List L.Token) (o : Out L A) → Ends L Fine o → Swapped L (Derives g) (Front g) (read g) false us o → Front g Fine us
   fine_of us (Got x d rest) e h = subst (Front g Fine) (sym (h.1 ∙ ends_none h.0 rest e.0)) (derives_front L g h.0 x h.2)
   fine_of us (Stop (Unexpected d) rest) e h = subst (Front g Fine) (sym (h.1 ∙ ends_none h.0 rest e.0)) h.2
   fine_of us (Stop (Broken r) rest) e h = absurd e

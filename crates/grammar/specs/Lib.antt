@@ -5,3 +5,4 @@ pub mod Reading
 pub mod Laws
 pub mod Clauses
 pub mod Aside
+pub mod Union

@@ -7,7 +7,7 @@ use Rattle.grammar.specs.Grammar.{Alphabet, Grammar, nothing, tok, seq, alt, opt
 use Rattle.grammar.specs.LookAhead.{nullable, firsts, extensions, labels, apart, within, LL1}
 use Rattle.grammar.specs.Language.{Sentence, both, maybe, many, steps, last_of, growth, Derives, Ending, Fine, Labelled, Breaks, Prefixes, one, empty_front, label_front, both_front, many_front, growth_front, Front, IsUnexpected, IsBroken, IsFault, Misread, Answer, Holds}
 use Rattle.grammar.specs.Reading.{Out, Got, Stop, Read, then_do, kept, read_one, read_both, read_maybe, read_many, read_growth, read, answered, answer}
-use Rattle.grammar.specs.Laws.{HoldsOnce}
+use Rattle.grammar.specs.Laws.{HoldsOnce, OneTree, PrefixClosed, AnswersExactly}
 use Rattle.grammar.proofs.Basics.{no_parts, append_none, ends_none, true_false}
 use Rattle.grammar.proofs.Swap.{Swapped, FaultFact, LabelFact, swaps, alike, alike_for}
 use Rattle.grammar.proofs.Begin.{Shows, Ends, EndsFor}
@@ -235,3 +235,16 @@ module _ (L : Alphabet) where
         only : (q : Answer L A) → Holds g ts q → q ≡ answer g ts
         only (Ok x) h = sym (spelled_answered ts x h)
         only (Err e) h = sym (misread_answered ts e.0 e.1 h)
+
+    pub one_tree : OneTree g
+    one_tree ts x y w v = let e = sym (spelled_answered ts x w) ∙ spelled_answered ts y v in cc
+
+    pub prefix_closed : PrefixClosed g
+    prefix_closed = (λ ts x w. derives_front g ts x w, λ us vs h. front_prefix us vs h)
+
+    pub answers_exactly : AnswersExactly g
+    answers_exactly ts r = (there r, λ e. subst (Holds g ts) e (answer_holds ts))
+      where
+        there : (r : Answer L A) → Holds g ts r → answer g ts ≡ r
+        there (Ok x) h = spelled_answered ts x h
+        there (Err e) h = misread_answered ts e.0 e.1 h

@@ -1,12 +1,14 @@
-//! The theorems on grammars.
+//! The theorems on grammars, each as the contract of a function that does nothing.
 ghost use Rattle.std.specs.Prelude.{ℕ};
 ghost use Rattle.grammar.specs.Grammar.{Grammar, alphabet};
 ghost use Rattle.grammar.specs.LookAhead.{LL1};
-ghost use Rattle.grammar.specs.Laws.{HoldsOnce};
+ghost use Rattle.grammar.specs.Laws.{HoldsOnce, OneTree, PrefixClosed, AnswersExactly};
+ghost use Rattle.grammar.specs.Aside.{SameFault};
+ghost use Rattle.grammar.specs.Union.{JoinHolds};
 
-/// A language that has a grammar by which one token of look-ahead decides.
+/// A language with a grammar in which one token of look-ahead decides.
 pub trait Language {
-    /// What texts of the language consist of.
+    /// The tokens.
     type Token;
     /// What is said of a token that breaks a side rule.
     type Rule;
@@ -20,7 +22,50 @@ pub trait Language {
     ghost decided: { LL1 grammar };
 }
 
-/// Of every list of tokens exactly one thing holds: it has one tree, or it has one first fault.
+/// Every list of tokens has exactly one tree, or exactly one first fault.
 pub fn holds_once<G: Language>()
     ensures { HoldsOnce G.grammar }
+{}
+
+/// A sentence has one tree.
+pub fn one_tree<G: Language>()
+    ensures { OneTree G.grammar }
+{}
+
+/// Sentences, and the beginnings of viable prefixes, are viable prefixes.
+pub fn prefix_closed<G: Language>()
+    ensures { PrefixClosed G.grammar }
+{}
+
+/// The reader by one token of look-ahead answers the tree or the first fault, and nothing else holds.
+pub fn answers_exactly<G: Language>()
+    ensures { AnswersExactly G.grammar }
+{}
+
+/// Whether viable prefixes keep side rules or leave them aside, the first fault is the same.
+pub fn same_fault<G: Language>()
+    ensures { SameFault G.grammar }
+{}
+
+/// A language with two grammars, in each of which one token of look-ahead decides.
+pub trait TwoGrammars {
+    /// The tokens.
+    type Token;
+    /// What is said of a token that breaks a side rule.
+    type Rule;
+
+    ghost kind: { Self.Token → ℕ };
+
+    ghost Tree: { Type 0 };
+
+    ghost first: { Grammar (alphabet Self.Token Self.Rule kind) Tree };
+
+    ghost second: { Grammar (alphabet Self.Token Self.Rule kind) Tree };
+
+    ghost decided: { LL1 first × LL1 second };
+}
+
+/// The answers of the two grammars, joined, are those of their union.
+pub fn join_holds<G: TwoGrammars>()
+    ensures { JoinHolds G.first G.second }
 {}

@@ -7,6 +7,7 @@ pub mod Answer
 pub mod Steps
 pub mod Loop
 pub mod Forms
+pub mod Turns
 pub mod Top
 pub mod Bare
 pub mod Same

@@ -1,30 +1,92 @@
 -- One token of look-ahead decides in the grammar.
-use Rattle.std.proofs.Common.{◌≡◌, false, true, List, [], ◌∷◌, refl, rules, Bool}
 use Rattle.std.specs.Prelude.{nat_eq}
-use Rattle.grammar.specs.Grammar.{opt, listed, preceded}
-use Rattle.grammar.specs.LookAhead.{LL1}
+use Rattle.std.proofs.Common.{◌≡◌, ℕ, zero, suc, length, false, true, List, [], ◌∷◌, refl, rules, Bool}
+use Rattle.grammar.specs.Grammar.{Grammar, as_tree, seq, opt, listed, preceded}
+use Rattle.grammar.specs.LookAhead.{LL1, firsts, extensions, nullable, labels, apart, within}
 use Rattle.grammar_example.specs.declared.tree.ValueType.{ValueType}
+use Rattle.grammar_example.specs.declared.tree.Value.{Value}
 use Rattle.grammar_example.specs.declared.tree.Base.{Base}
 use Rattle.grammar_example.specs.declared.tree.Base.TheVariants as base
-use Rattle.grammar_example.specs.Example.{name, star, base_type, type_of, truth, number, value_at, value_of, set, constant, result_of, function, item_of, program}
+use Rattle.grammar_example.specs.Example.{tokens, name, star, base_of, stars_of, members, tuple_at, base_at, type_at, truth, number, value_at, value_of, set_at, set, constant, result_of, function, item_of, program}
+
+-- types
 
 pub star_decided : (x : ValueType) → LL1 (star x)
 unfolding star
 star_decided x = tt
 
-value_decided : (n : Bool) (b : Base) → LL1 (set (record { base = b; stars = 0 }))
-unfolding set value_of number truth
-value_decided n base.Int = search rules
-value_decided n base.Bool = search rules
+tuple_firsts : (n : ℕ) → firsts (tuple_at n) ≡ 12 ∷ []
+unfolding tuple_at
+tuple_firsts zero = refl
+tuple_firsts (suc n) = refl
 
-pub type_decided : LL1 (opt type_of)
-unfolding star base_type type_of
-type_decided = search rules
+tuple_extensions : (n : ℕ) → extensions (tuple_at n) ≡ []
+unfolding tuple_at listed
+tuple_extensions zero = refl
+tuple_extensions (suc n) = refl
+
+tuple_some : (n : ℕ) → nullable (tuple_at n) ≡ false
+unfolding tuple_at
+tuple_some zero = refl
+tuple_some (suc n) = refl
+
+module _ (g : Grammar tokens ValueType) (p : LL1 g) (s : firsts g ≡ 12 ∷ []) (k : extensions g ≡ []) (e : nullable g ≡ false) where
+  stars_decided : LL1 (opt (stars_of (base_of g)))
+  unfolding star
+  stars_decided = rw (s, k, e) (search (rules, p))
+
+  members_decided : LL1 (members (stars_of (base_of g)))
+  unfolding star listed preceded
+  members_decided = rw (s, k, e) (search (rules, p))
+
+tuple_decided : (n : ℕ) → LL1 (tuple_at n)
+unfolding tuple_at
+tuple_decided zero = tt
+tuple_decided (suc n) = members_decided (tuple_at n) (tuple_decided n) (tuple_firsts n) (tuple_extensions n) (tuple_some n)
+
+pub type_decided : (n : ℕ) → LL1 (opt (type_at n))
+unfolding type_at base_at
+type_decided n = stars_decided (tuple_at n) (tuple_decided n) (tuple_firsts n) (tuple_extensions n) (tuple_some n)
+
+pub type_firsts : (n : ℕ) → firsts (type_at n) ≡ 4 ∷ 5 ∷ 18 ∷ 12 ∷ []
+unfolding type_at base_at
+type_firsts n = rw (tuple_firsts n) refl
+
+type_extensions : (n : ℕ) → extensions (type_at n) ≡ 9 ∷ []
+unfolding type_at base_at
+type_extensions n = refl
+
+type_some : (n : ℕ) → nullable (type_at n) ≡ false
+unfolding type_at base_at
+type_some n = refl
+
+type_ll1 : (n : ℕ) → LL1 (type_at n)
+type_ll1 n = (type_decided n).0
+
+-- values
+
+set_decided : (b : Bool) (x : Base) → LL1 (set_at b x (value_at b x)) × (apart (9 ∷ []) (firsts (set_at b x (value_at b x))) ≡ true) × (nullable (set_at b x (value_at b x)) ≡ true → within (9 ∷ []) (9 ∷ []) ≡ true) × (within (extensions (set_at b x (value_at b x))) (9 ∷ []) ≡ true)
+unfolding truth number
+set_decided true base.Int = search rules
+set_decided true base.Bool = search rules
+set_decided true base.Unit = search rules
+set_decided true (base.Tuple n) = search rules
+set_decided false x = search rules
+
+-- items
+
+constant_decided : LL1 constant
+unfolding constant name set value_of
+constant_decided = simp (type_firsts, type_extensions, type_some) (search (rules, type_ll1 2, set_decided))
+
+function_decided : LL1 function
+unfolding function name result_of listed preceded
+function_decided = simp (type_firsts, type_extensions, type_some) (search (rules, type_ll1 2))
 
 pub item_decided : LL1 (opt item_of)
-unfolding listed preceded name star base_type type_of truth number value_of set constant result_of function item_of
-item_decided = search rules
+unfolding item_of constant function
+item_decided = ((constant_decided, function_decided, refl, refl, refl), refl)
 
 pub program_decided : LL1 (opt program)
-unfolding listed preceded name star base_type type_of truth number value_of set constant result_of function item_of program
-program_decided = search rules
+unfolding program item_of constant function
+program_decided = (((item_decided.0, item_decided.1, refl), tt, refl), refl)

@@ -1,5 +1,5 @@
 -- The grammar.
-use Rattle.std.specs.Prelude.{ℕ, ◌+◌, Bool, true, false, if◌then◌else◌, nat_eq, nat_lt, Option, Some, None, List, [], ◌∷◌, map, Vec}
+use Rattle.std.specs.Prelude.{ℕ, zero, suc, length, ◌+◌, Bool, true, false, if◌then◌else◌, nat_eq, nat_lt, Option, Some, None, List, [], ◌∷◌, map, Vec}
 use Rattle.grammar.specs.Grammar.{Alphabet, Grammar, alphabet, nothing, tok, seq, alt, opt, rep, as_tree, dep, grow, grown, labelled, any, second, listed}
 use Rattle.grammar_example.specs.declared.token.Kind.{Kind}
 use Rattle.grammar_example.specs.declared.token.Kind.TheVariants as kind
@@ -49,13 +49,31 @@ star x = as_tree (λ t. record { base = x.base; stars = x.stars + 1 }) (tok (9 �
 abbrev pub plain : Base → ValueType
 plain b = record { base = b; stars = 0 }
 
--- base = "int" | "bool"
-unfoldable pub base_type : Grammar tokens ValueType
-base_type = alt (as_tree (λ t. plain base.Int) (one kind.Int)) (as_tree (λ t. plain base.Bool) (one kind.Bool))
+-- a base type: a word, or a tuple
+abbrev pub base_of : Grammar tokens ValueType → Grammar tokens ValueType
+base_of tuple = alt (as_tree (λ t. plain base.Int) (one kind.Int)) (alt (as_tree (λ t. plain base.Bool) (one kind.Bool)) (alt (as_tree (λ t. plain base.Unit) (one kind.Unit)) tuple))
 
 -- type = base { "*" }
-unfoldable pub type_of : Grammar tokens ValueType
-type_of = labelled (grown base_type (9 ∷ []) star)
+abbrev pub stars_of : Grammar tokens ValueType → Grammar tokens ValueType
+stars_of b = labelled (grown b (9 ∷ []) star)
+
+abbrev pub members : Grammar tokens ValueType → Grammar tokens ValueType
+members a = as_tree (λ p. plain (base.Tuple (length p.1.0))) (seq (one kind.Open) (seq (listed (11 ∷ []) a) (one kind.Close)))
+
+-- tuple = "(" [ type { "," type } ] ")", nested at most so deep
+unfoldable pub tuple_at : ℕ → Grammar tokens ValueType
+tuple_at zero = as_tree (λ t. plain base.Int) (tok (12 ∷ []) (λ t. Some TooDeep))
+tuple_at (suc depth) = members (stars_of (base_of (tuple_at depth)))
+
+-- base = "int" | "bool" | "unit" | tuple
+unfoldable pub base_at : ℕ → Grammar tokens ValueType
+base_at depth = base_of (tuple_at depth)
+
+unfoldable pub type_at : ℕ → Grammar tokens ValueType
+type_at depth = stars_of (base_at depth)
+
+abbrev pub type_of : Grammar tokens ValueType
+type_of = type_at 2
 
 unfoldable pub truth : Grammar tokens Value
 truth = alt (as_tree (λ t. value.Truth true) (one kind.Yes)) (as_tree (λ t. value.Truth false) (one kind.No))
@@ -65,21 +83,25 @@ number = as_tree (λ t. value.Number t.value) (tok (3 ∷ []) in_range)
 
 -- of a base, with no star behind it or with some
 abbrev pub value_at : Bool → Base → Grammar tokens Value
-value_at true base.Int = number
 value_at true base.Bool = truth
 value_at false b = as_tree (λ t. value.Null) (one kind.Null)
+value_at true b = number
 
 -- a value of a type: a number, "yes" or "no", or "null" where it has a star
 unfoldable pub value_of : ValueType → Grammar tokens Value
 value_of x = value_at (nat_eq x.stars 0) x.base
 
--- "=" value(type)
+abbrev pub set_at : Bool → Base → Grammar tokens Value → Grammar tokens Value
+set_at true base.Unit v = nothing value.Nothing
+set_at b x v = as_tree second (seq (one kind.Equals) v)
+
+-- "=" value(type), or nothing for "unit"
 unfoldable pub set : ValueType → Grammar tokens Value
-set x = as_tree second (seq (one kind.Equals) (value_of x))
+set x = set_at (nat_eq x.stars 0) x.base (value_of x)
 
 -- const = "const" name ":" type "=" value(type) ";"
 unfoldable pub constant : Grammar tokens ItemTree
-constant = as_tree (λ p. ConstTree p.1.0 p.1.1.1.0.0 p.1.1.1.0.1) (seq (one kind.Const) (seq name (seq (one kind.Colon) (seq (dep type_of [] set) (one kind.Semicolon)))))
+constant = as_tree (λ p. ConstTree p.1.0 p.1.1.1.0.0 p.1.1.1.0.1) (seq (one kind.Const) (seq name (seq (one kind.Colon) (seq (dep type_of (9 ∷ []) set) (one kind.Semicolon)))))
 
 -- result = [ ":" type ]
 unfoldable pub result_of : Grammar tokens (Option ValueType)

@@ -1,7 +1,7 @@
 -- The numbers of the kinds of tokens.
 use Rattle.std.specs.Prelude.{ℕ}
 use Rattle.grammar_example.specs.declared.token.Kind.{Kind}
-use Rattle.grammar_example.specs.declared.token.Kind.TheVariants.{Const, Function, Name, Number, Int, Bool, Yes, No, Null, Star, Colon, Comma, Open, Close, Equals, Semicolon, End, Bad}
+use Rattle.grammar_example.specs.declared.token.Kind.TheVariants.{Const, Function, Name, Number, Int, Bool, Unit, Yes, No, Null, Star, Colon, Comma, Open, Close, Equals, Semicolon, End, Bad}
 
 abbrev pub code : Kind → ℕ
 code Const = 0
@@ -22,3 +22,4 @@ code Equals = 14
 code Semicolon = 15
 code End = 16
 code Bad = 17
+code Unit = 18

@@ -1,12 +1,12 @@
 //! The reader: a function for each production.
-ghost use Rattle.std.specs.Prelude.{◌≡◌, ℕ, List, [], ◌∷◌, map};
-ghost use Rattle.grammar.specs.Grammar.{alphabet, rep, grow, listed, begins_with};
+ghost use Rattle.std.specs.Prelude.{◌≡◌, ℕ, List, [], ◌∷◌, ◌++◌, map};
+ghost use Rattle.grammar.specs.Grammar.{alphabet, as_tree, rep, grow, preceded, listed, begins_with};
 ghost use Rattle.grammar.specs.LookAhead.{LL1, firsts, labels};
 ghost use Rattle.grammar.specs.Clauses.{Gives, Answers};
 ghost use Rattle.grammar_example.specs.declared.tree.ValueType.{ValueType};
 ghost use Rattle.grammar_example.specs.Kinds.{code};
 ghost use Rattle.grammar_example.specs.Decided.{star_decided, type_decided, item_decided, program_decided};
-ghost use Rattle.grammar_example.specs.Example.{ItemTree, view, one, name, star, base_type, type_of, truth, number, value_of, set, constant, result_of, function, item_of, program};
+ghost use Rattle.grammar_example.specs.Example.{tokens, ItemTree, view, one, name, star, tuple_at, members, base_at, type_at, truth, number, value_of, set, constant, result_of, function, item_of, program};
 
 use crate::token::{Kind, Rule, Token};
 use crate::tree::{Base, Item, Value, ValueType};
@@ -50,18 +50,170 @@ fn truth<'a>(cursor: &mut Cursor<'a, Token>) -> Result<Value, Stop<'a>>
     Ok(Value::Truth(false))
 }
 
-#[tactic(auto, unfolding(crate::specs::Example::base_type))]
-fn base_type<'a>(cursor: &mut Cursor<'a, Token>) -> Result<ValueType, Stop<'a>>
-    ensures { Gives (λ x. x) base_type cursor.old cursor.new result }
+/// The tuple that begins here, or its parenthesis where it is nested too deep.
+#[cycle(types)]
+fn tuple_at<'a>(alloc: Global, depth: u32, cursor: &mut Cursor<'a, Token>) -> Result<ValueType, Stop<'a>>
+    ensures { Gives (λ x. x) (tuple_at depth) cursor.old cursor.new result }
+{
+    if depth == 0 {
+        return Err(cursor.refuse(Kind::Open, Rule::TooDeep));
+    }
+    members(alloc, depth - 1, cursor)
+}
+
+#[cycle(types)]
+fn members<'a>(
+    alloc: Global,
+    depth: u32,
+    cursor: &mut Cursor<'a, Token>,
+) -> Result<ValueType, Stop<'a>>
+    ensures { Gives (λ x. x) (members (type_at depth)) cursor.old cursor.new result }
+{
+    cursor.take(Kind::Open)?;
+    let types = types_at(alloc, depth, cursor)?;
+    cursor.take(Kind::Close)?;
+    Ok(ValueType {
+        base: Base::Tuple(types.len() as u64),
+        stars: 0,
+    })
+}
+
+/// Types between commas, or none. They contain one another, so the loop stands here.
+#[cycle(types)]
+fn types_at<'a>(
+    alloc: Global,
+    depth: u32,
+    cursor: &mut Cursor<'a, Token>,
+) -> Result<Vec<ValueType>, Stop<'a>>
+    ensures { Gives (λ v. v.items) (listed (11 ∷ []) (type_at depth)) cursor.old cursor.new result }
+{
+    let mut types = Vec::new(alloc);
+    if !next_is_type(cursor) {
+        cursor.skip(true);
+        return Ok(types);
+    }
+    let first = type_at(alloc, depth, cursor)?;
+    types.push(first)?;
+    more_types(alloc, depth, cursor, &mut types)?;
+    Ok(types)
+}
+
+/// A comma and a type any number of times, added to the types.
+#[cycle(types)]
+fn more_types<'a>(
+    alloc: Global,
+    depth: u32,
+    cursor: &mut Cursor<'a, Token>,
+    types: &mut Vec<ValueType>,
+) -> Result<(), Stop<'a>>
+    ensures { Gives (λ _. types.new.items) (as_tree (λ xs. types.old.items ++ xs) (rep (preceded (11 ∷ []) (type_at depth)))) cursor.old cursor.new result }
+{
+    while cursor.next_is(Kind::Comma) {
+        let ty = comma_type(alloc, depth, cursor)?;
+        types.push(ty)?;
+    }
+    Ok(())
+}
+
+#[cycle(types)]
+#[tactic(auto, unfolding(grammar::specs::Grammar::preceded))]
+fn comma_type<'a>(
+    alloc: Global,
+    depth: u32,
+    cursor: &mut Cursor<'a, Token>,
+) -> Result<ValueType, Stop<'a>>
+    ensures { Gives (λ x. x) (preceded (11 ∷ []) (type_at depth)) cursor.old cursor.new result }
+{
+    cursor.take(Kind::Comma)?;
+    type_at(alloc, depth, cursor)
+}
+
+/// Whether a type begins here.
+fn next_is_type(cursor: &Cursor<'_, Token>) -> bool
+    ensures { result ≡ begins_with tokens (4 ∷ 5 ∷ 18 ∷ 12 ∷ []) cursor.now.rest.now }
+{
+    cursor.next_is(Kind::Int)
+        || cursor.next_is(Kind::Bool)
+        || cursor.next_is(Kind::Unit)
+        || cursor.next_is(Kind::Open)
+}
+
+#[cycle(types)]
+#[tactic(auto, unfolding(crate::specs::Example::base_at))]
+fn base_at<'a>(alloc: Global, depth: u32, cursor: &mut Cursor<'a, Token>) -> Result<ValueType, Stop<'a>>
+    ensures { Gives (λ x. x) (base_at depth) cursor.old cursor.new result }
 {
     let base = if cursor.next_is(Kind::Int) {
         cursor.take(Kind::Int)?;
         Base::Int
-    } else {
+    } else if cursor.next_is(Kind::Bool) {
         cursor.take(Kind::Bool)?;
         Base::Bool
+    } else if cursor.next_is(Kind::Unit) {
+        cursor.take(Kind::Unit)?;
+        Base::Unit
+    } else {
+        return tuple_at(alloc, depth, cursor);
     };
     Ok(ValueType { base, stars: 0 })
+}
+
+#[cycle(types)]
+#[tactic(auto, unfolding(crate::specs::Example::type_at))]
+fn type_at<'a>(alloc: Global, depth: u32, cursor: &mut Cursor<'a, Token>) -> Result<ValueType, Stop<'a>>
+    ensures { Gives (λ x. x) (type_at depth) cursor.old cursor.new result }
+{
+    cursor.labelled = true;
+    let base = base_at(alloc, depth, cursor)?;
+    grow(alloc, &Stars, base, cursor)
+}
+
+/// The types of a list, with tuples nested so deep.
+#[derive(Drop)]
+struct Types {
+    depth: u32,
+}
+
+impl Part for Types {
+    type Token = Token;
+    type Rule = Rule;
+    type Item = ValueType;
+
+    ghost kind = { λ t. code t.kind };
+
+    ghost Tree = { ValueType };
+
+    ghost grammar = { λ m. type_at m.depth };
+
+    ghost view = { λ x. x };
+
+    ghost decided = { λ m. type_decided m.depth };
+
+    #[tactic(auto, using(crate::specs::Decided::type_firsts))]
+    fn begins(&self, cursor: &Cursor<'_, Token>) -> bool {
+        next_is_type(cursor)
+    }
+
+    #[tactic(auto, unfolding(crate::specs::Example::type_at))]
+    fn labelled(&self) -> bool {
+        true
+    }
+
+    fn read<'a>(
+        &self,
+        alloc: Global,
+        cursor: &mut Cursor<'a, Token>,
+    ) -> Result<ValueType, Stop<'a>> {
+        type_at(alloc, self.depth, cursor)
+    }
+}
+
+impl Listed for Types {
+    ghost separator = { 11 };
+
+    fn separates(&self, cursor: &Cursor<'_, Token>) -> bool {
+        cursor.next_is(Kind::Comma)
+    }
 }
 
 #[tactic(auto, unfolding(crate::specs::Example::star))]
@@ -121,15 +273,6 @@ impl Growth for Stars {
     }
 }
 
-#[tactic(auto, unfolding(crate::specs::Example::type_of))]
-fn type_of<'a>(alloc: Global, cursor: &mut Cursor<'a, Token>) -> Result<ValueType, Stop<'a>>
-    ensures { Gives (λ x. x) type_of cursor.old cursor.new result }
-{
-    cursor.labelled = true;
-    let base = base_type(cursor)?;
-    grow(alloc, &Stars, base, cursor)
-}
-
 #[tactic(auto, unfolding(crate::specs::Example::value_of))]
 fn value<'a>(ty: ValueType, cursor: &mut Cursor<'a, Token>) -> Result<Value, Stop<'a>>
     ensures { Gives (λ x. x) (value_of ty) cursor.old cursor.new result }
@@ -139,8 +282,8 @@ fn value<'a>(ty: ValueType, cursor: &mut Cursor<'a, Token>) -> Result<Value, Sto
         return Ok(Value::Null);
     }
     match ty.base {
-        Base::Int => number(cursor),
         Base::Bool => truth(cursor),
+        _ => number(cursor),
     }
 }
 
@@ -148,6 +291,9 @@ fn value<'a>(ty: ValueType, cursor: &mut Cursor<'a, Token>) -> Result<Value, Sto
 fn set<'a>(ty: ValueType, cursor: &mut Cursor<'a, Token>) -> Result<Value, Stop<'a>>
     ensures { Gives (λ x. x) (set ty) cursor.old cursor.new result }
 {
+    if ty.stars == 0 && ty.base == Base::Unit {
+        return Ok(Value::Nothing);
+    }
     cursor.take(Kind::Equals)?;
     value(ty, cursor)
 }
@@ -159,55 +305,10 @@ fn constant<'a>(alloc: Global, cursor: &mut Cursor<'a, Token>) -> Result<Item, S
     cursor.take(Kind::Const)?;
     let name = name(cursor)?;
     cursor.take(Kind::Colon)?;
-    let ty = type_of(alloc, cursor)?;
+    let ty = type_at(alloc, 2, cursor)?;
     let value = set(ty, cursor)?;
     cursor.take(Kind::Semicolon)?;
     Ok(Item::Const(name, ty, value))
-}
-
-/// The types of parameters.
-struct Params;
-
-impl Part for Params {
-    type Token = Token;
-    type Rule = Rule;
-    type Item = ValueType;
-
-    ghost kind = { λ t. code t.kind };
-
-    ghost Tree = { ValueType };
-
-    ghost grammar = { λ _. type_of };
-
-    ghost view = { λ x. x };
-
-    ghost decided = { λ _. type_decided };
-
-    #[tactic(auto, unfolding(crate::specs::Example::type_of, crate::specs::Example::base_type))]
-    fn begins(&self, cursor: &Cursor<'_, Token>) -> bool {
-        cursor.next_is(Kind::Int) || cursor.next_is(Kind::Bool)
-    }
-
-    #[tactic(auto, unfolding(crate::specs::Example::type_of))]
-    fn labelled(&self) -> bool {
-        true
-    }
-
-    fn read<'a>(
-        &self,
-        alloc: Global,
-        cursor: &mut Cursor<'a, Token>,
-    ) -> Result<ValueType, Stop<'a>> {
-        type_of(alloc, cursor)
-    }
-}
-
-impl Listed for Params {
-    ghost separator = { 11 };
-
-    fn separates(&self, cursor: &Cursor<'_, Token>) -> bool {
-        cursor.next_is(Kind::Comma)
-    }
 }
 
 #[tactic(auto, unfolding(crate::specs::Example::result_of))]
@@ -221,7 +322,7 @@ fn result_of<'a>(
         return Ok(None);
     }
     cursor.take(Kind::Colon)?;
-    Ok(Some(type_of(alloc, cursor)?))
+    Ok(Some(type_at(alloc, 2, cursor)?))
 }
 
 #[tactic(auto, unfolding(crate::specs::Example::function))]
@@ -231,7 +332,7 @@ fn function<'a>(alloc: Global, cursor: &mut Cursor<'a, Token>) -> Result<Item, S
     cursor.take(Kind::Function)?;
     let name = name(cursor)?;
     cursor.take(Kind::Open)?;
-    let params = separated(alloc, &Params, cursor)?;
+    let params = separated(alloc, &Types { depth: 2 }, cursor)?;
     cursor.take(Kind::Close)?;
     let result = result_of(alloc, cursor)?;
     cursor.take(Kind::Semicolon)?;

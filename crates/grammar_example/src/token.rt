@@ -12,6 +12,7 @@ pub enum Kind {
     Number,
     Int,
     Bool,
+    Unit,
     Yes,
     No,
     Null,

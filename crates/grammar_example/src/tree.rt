@@ -5,6 +5,9 @@
 pub enum Base {
     Int,
     Bool,
+    Unit,
+    /// Of so many members.
+    Tuple(u64),
 }
 
 /// A type: a base, and how often a star stands behind it.
@@ -19,6 +22,7 @@ pub enum Value {
     Number(u64),
     Truth(bool),
     Null,
+    Nothing,
 }
 
 #[derive(Debug, Drop)]

@@ -1,0 +1,55 @@
+-- What a loop of a hand-written reader has to show, turn by turn: one lemma for each goal.
+-- `trees` are the trees of the items so far, and `added` says how one more item adds its own.
+use Rattle.std.proofs.Common.{◌≡◌, ℕ, ◌<◌, Bool, true, false, ◌||◌, List, [], ◌∷◌, ◌++◌, length, refl, sym, ap, ◌∙◌, subst, append_assoc}
+use Rattle.std.proofs.lemmas.List.{append-nil}
+use Rattle.grammar.specs.declared.cursor.Halt.{Halt}
+use Rattle.grammar.specs.Grammar.{Alphabet, Grammar, rep, as_tree, preceded, listed, begins_with}
+use Rattle.grammar.specs.LookAhead.{nullable, firsts, labels, LL1}
+use Rattle.grammar.specs.Reading.{Out, Got, Stop, read}
+use Rattle.grammar.specs.Clauses.{Fails}
+use Rattle.grammar.proofs.Steps.{shorter}
+use Rattle.grammar.proofs.Forms.{preceded_begins, preceded_labels, preceded_decided, listed_first, listed_fails}
+use Rattle.grammar.proofs.Loop.{goes_on, ends, fails, or_false_right}
+
+-- a repetition
+
+module _ {L : Alphabet} {X A : Type 0} (trees : List X → List A) (view : X → A) (added : (vs : List X) (v : X) → trees (vs ++ v ∷ []) ≡ trees vs ++ view v ∷ []) (g : Grammar L A) (p : LL1 g) (c : Bool) (ts : List L.Token) where
+  pub repeat_smaller : (x : A) (d : Bool) (us : List L.Token) → begins_with L (firsts g) ts ≡ true → read g c ts ≡ Got x d us → length us < length ts
+  repeat_smaller x d us b e = shorter L g p c ts x d us b e
+
+  pub repeat_kept : (vs ws : List X) (v : X) (d : Bool) (us : List L.Token) (all : Out L (List A)) → begins_with L (firsts g) ts ≡ true → read g c ts ≡ Got (view v) d us → ws ≡ vs ++ v ∷ [] → read (as_tree (λ xs. trees vs ++ xs) (rep g)) c ts ≡ all → read (as_tree (λ xs. trees ws ++ xs) (rep g)) d us ≡ all
+  repeat_kept vs ws v d us all b e n i =
+      let one : (xs : List A) → trees vs ++ view v ∷ xs ≡ trees ws ++ xs = λ xs. sym (append_assoc (trees vs) (view v ∷ []) xs) ∙ ap (λ z. z ++ xs) (sym (added vs v) ∙ ap trees (sym n)) in
+      sym (goes_on L g p (λ xs. trees vs ++ xs) (λ xs. trees ws ++ xs) (view v) c ts d us one b e) ∙ i
+
+  pub repeat_ends : (vs : List X) (all : Out L (List A)) → begins_with L (firsts g) ts ≡ false → read (as_tree (λ xs. trees vs ++ xs) (rep g)) c ts ≡ all → all ≡ Got (trees vs) (c || labels g) ts
+  repeat_ends vs all b i = sym i ∙ (ends L g p (λ xs. trees vs ++ xs) c ts b ∙ ap (λ z. Got z (c || labels g) ts) (append-nil (trees vs)))
+
+  pub repeat_fails : (vs : List X) (all : Out L (List A)) (e : Halt L.Token L.Rule) → begins_with L (firsts g) ts ≡ true → Fails e (read g c ts) → read (as_tree (λ xs. trees vs ++ xs) (rep g)) c ts ≡ all → Fails e all
+  repeat_fails vs all e b f i = fails L g p (λ xs. trees vs ++ xs) all c ts e b f i
+
+-- the items of a list that follow the first; r is the test for the separator s
+
+module _ {L : Alphabet} {X A : Type 0} (trees : List X → List A) (view : X → A) (added : (vs : List X) (v : X) → trees (vs ++ v ∷ []) ≡ trees vs ++ view v ∷ []) (s : ℕ) (g : Grammar L A) (p : LL1 g) (c : Bool) (ts : List L.Token) (r : Bool) (test : r ≡ begins_with L (s ∷ []) ts) where
+  pub more_smaller : (x : A) (d : Bool) (us : List L.Token) → r ≡ true → read (preceded (s ∷ []) g) c ts ≡ Got x d us → length us < length ts
+  more_smaller x d us b e = shorter L (preceded (s ∷ []) g) (preceded_decided s g p) c ts x d us (preceded_begins s g ts r true test b) e
+
+  pub more_kept : (vs ws : List X) (v : X) (d : Bool) (us : List L.Token) (all : Out L (List A)) → r ≡ true → read (preceded (s ∷ []) g) c ts ≡ Got (view v) d us → ws ≡ vs ++ v ∷ [] → read (as_tree (λ xs. trees vs ++ xs) (rep (preceded (s ∷ []) g))) c ts ≡ all → read (as_tree (λ xs. trees ws ++ xs) (rep (preceded (s ∷ []) g))) d us ≡ all
+  more_kept vs ws v d us all b e n i = repeat_kept trees view added (preceded (s ∷ []) g) (preceded_decided s g p) c ts vs ws v d us all (preceded_begins s g ts r true test b) e n i
+
+  pub more_ends : (vs : List X) (all : Out L (List A)) → r ≡ false → read (as_tree (λ xs. trees vs ++ xs) (rep (preceded (s ∷ []) g))) c ts ≡ all → all ≡ Got (trees vs) c ts
+  more_ends vs all b i =
+      repeat_ends trees view added (preceded (s ∷ []) g) (preceded_decided s g p) c ts vs all (preceded_begins s g ts r false test b) i
+      ∙ ap (λ z. Got (trees vs) z ts) (ap (λ z. c || z) (preceded_labels s g) ∙ or_false_right c)
+
+  pub more_fails : (vs : List X) (all : Out L (List A)) (e : Halt L.Token L.Rule) → r ≡ true → Fails e (read (preceded (s ∷ []) g) c ts) → read (as_tree (λ xs. trees vs ++ xs) (rep (preceded (s ∷ []) g))) c ts ≡ all → Fails e all
+  more_fails vs all e b f i = repeat_fails trees view added (preceded (s ∷ []) g) (preceded_decided s g p) c ts vs all e (preceded_begins s g ts r true test b) f i
+
+-- a list: its first item x is read up to us, and the items ws follow from the one item v
+
+module _ {L : Alphabet} {X A : Type 0} (trees : List X → List A) (s : ℕ) (g : Grammar L A) (some : nullable g ≡ false) (c : Bool) (ts : List L.Token) (x : A) (d : Bool) (us : List L.Token) (b : begins_with L (firsts g) ts ≡ true) (e : read g c ts ≡ Got x d us) (vs : List X) (first : trees vs ≡ x ∷ []) where
+  pub list_read : (all : Out L (List A)) → read (as_tree (λ xs. trees vs ++ xs) (rep (preceded (s ∷ []) g))) d us ≡ all → read (listed (s ∷ []) g) c ts ≡ all
+  list_read all i = listed_first s g some c ts x d us b e ∙ (ap (λ z. read (as_tree (λ xs. z ++ xs) (rep (preceded (s ∷ []) g))) d us) (sym first) ∙ i)
+
+  pub list_fails : (h : Halt L.Token L.Rule) → Fails h (read (as_tree (λ xs. trees vs ++ xs) (rep (preceded (s ∷ []) g))) d us) → Fails h (read (listed (s ∷ []) g) c ts)
+  list_fails h f = listed_fails s g some c ts x d us h b e (subst (λ z. Fails h (read (as_tree (λ xs. z ++ xs) (rep (preceded (s ∷ []) g))) d us)) first f)

@@ -1,8 +1,9 @@
 -- One token of look-ahead decides in the grammar.
 use Rattle.std.specs.Prelude.{nat_eq}
-use Rattle.std.proofs.Common.{◌≡◌, ℕ, zero, suc, length, false, true, List, [], ◌∷◌, refl, rules, Bool}
-use Rattle.grammar.specs.Grammar.{Grammar, as_tree, seq, opt, listed, preceded}
+use Rattle.std.proofs.Common.{◌≡◌, ℕ, zero, suc, length, false, true, List, [], ◌∷◌, ◌+◌, refl, sym, ap, ◌∙◌, arith, rules, Bool}
+use Rattle.grammar.specs.Grammar.{Grammar, as_tree, seq, opt, listed, preceded, begins_with}
 use Rattle.grammar.specs.LookAhead.{LL1, firsts, extensions, nullable, labels, apart, within}
+use Rattle.grammar_example.specs.declared.token.Token.{Token}
 use Rattle.grammar_example.specs.declared.tree.ValueType.{ValueType}
 use Rattle.grammar_example.specs.declared.tree.Value.{Value}
 use Rattle.grammar_example.specs.declared.tree.Base.{Base}
@@ -60,6 +61,19 @@ type_some : (n : ℕ) → nullable (type_at n) ≡ false
 unfolding type_at base_at
 type_some n = refl
 
+-- a test r of the next token tells whether a type begins
+pub type_begins : (n : ℕ) (ts : List Token) (r b : Bool) → r ≡ begins_with tokens (4 ∷ 5 ∷ 18 ∷ 12 ∷ []) ts → r ≡ b → begins_with tokens (firsts (type_at n)) ts ≡ b
+type_begins n ts r b e f = ap (λ z. begins_with tokens z ts) (type_firsts n) ∙ (sym e ∙ f)
+
+pub tuple_within : (d e : ℕ) → d ≡ e + 1 → tuple_at d ≡ members (type_at e)
+unfolding tuple_at type_at base_at
+tuple_within zero e h = absurd (omega arith)
+tuple_within (suc d) e h = let i : d ≡ e = omega arith in ap (λ z. members (stars_of (base_of (tuple_at z)))) i
+
+pub type_labels : (n : ℕ) → labels (type_at n) ≡ true
+unfolding type_at
+type_labels n = refl
+
 type_ll1 : (n : ℕ) → LL1 (type_at n)
 type_ll1 n = (type_decided n).0
 
@@ -88,5 +102,5 @@ unfolding item_of constant function
 item_decided = ((constant_decided, function_decided, refl, refl, refl), refl)
 
 pub program_decided : LL1 (opt program)
-unfolding program item_of constant function
+unfolding program item_of constant function name result_of listed
 program_decided = (((item_decided.0, item_decided.1, refl), tt, refl), refl)

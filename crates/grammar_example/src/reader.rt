@@ -50,13 +50,21 @@ fn truth<'a>(cursor: &mut Cursor<'a, Token>) -> Result<Value, Stop<'a>>
     Ok(Value::Truth(false))
 }
 
+/// Refuses a parenthesis that is nested too deep.
+#[tactic(auto, unfolding(crate::specs::Example::tuple_at))]
+fn no_tuple<'a>(cursor: &Cursor<'a, Token>) -> Result<ValueType, Stop<'a>>
+    ensures { Gives (λ x. x) (tuple_at 0) cursor.now cursor.now result }
+{
+    Err(cursor.refuse(Kind::Open, Rule::TooDeep))
+}
+
 /// The tuple that begins here, or its parenthesis where it is nested too deep.
 #[cycle(types)]
 fn tuple_at<'a>(alloc: Global, depth: u32, cursor: &mut Cursor<'a, Token>) -> Result<ValueType, Stop<'a>>
     ensures { Gives (λ x. x) (tuple_at depth) cursor.old cursor.new result }
 {
     if depth == 0 {
-        return Err(cursor.refuse(Kind::Open, Rule::TooDeep));
+        return no_tuple(cursor);
     }
     members(alloc, depth - 1, cursor)
 }

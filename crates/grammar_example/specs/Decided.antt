@@ -8,7 +8,7 @@ use Rattle.grammar_example.specs.declared.tree.ValueType.{ValueType}
 use Rattle.grammar_example.specs.declared.tree.Value.{Value}
 use Rattle.grammar_example.specs.declared.tree.Base.{Base}
 use Rattle.grammar_example.specs.declared.tree.Base.TheVariants as base
-use Rattle.grammar_example.specs.Example.{tokens, name, star, base_of, stars_of, members, tuple_at, base_at, type_at, truth, number, value_at, value_of, set_at, set, constant, result_of, function, item_of, program}
+use Rattle.grammar_example.specs.Example.{tokens, name, star, base_of, stars_of, members, tuple_at, base_at, type_at, truth, number, value_at, value_of, set_at, set, constant, result_of, function, item_of, program, no_program}
 
 -- types
 
@@ -104,3 +104,7 @@ item_decided = ((constant_decided, function_decided, refl, refl, refl), refl)
 pub program_decided : LL1 (opt program)
 unfolding program item_of constant function name result_of listed
 program_decided = (((item_decided.0, item_decided.1, refl), tt, refl), refl)
+
+pub no_program_decided : LL1 no_program
+unfolding no_program
+no_program_decided = search rules

@@ -118,3 +118,7 @@ item_of = alt constant function
 -- program = { item } end
 unfoldable pub program : Grammar tokens (List ItemTree)
 program = as_tree (λ p. p.0) (seq (rep item_of) (one kind.End))
+
+-- ";" end: the program without items
+unfoldable pub no_program : Grammar tokens (List ItemTree)
+no_program = as_tree (λ p. []) (seq (one kind.Semicolon) (one kind.End))

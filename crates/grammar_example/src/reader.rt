@@ -2,17 +2,20 @@
 ghost use Rattle.std.specs.Prelude.{◌≡◌, ℕ, List, [], ◌∷◌, ◌++◌, map};
 ghost use Rattle.grammar.specs.Grammar.{alphabet, as_tree, rep, grow, preceded, listed, begins_with};
 ghost use Rattle.grammar.specs.LookAhead.{LL1, firsts, labels};
+ghost use Rattle.grammar.specs.Laws.{HoldsOnce};
+ghost use Rattle.grammar.specs.Union.{JoinHolds};
 ghost use Rattle.grammar.specs.Clauses.{Gives, Answers};
 ghost use Rattle.grammar_example.specs.declared.tree.ValueType.{ValueType};
 ghost use Rattle.grammar_example.specs.Kinds.{code};
-ghost use Rattle.grammar_example.specs.Decided.{star_decided, type_decided, item_decided, program_decided};
-ghost use Rattle.grammar_example.specs.Example.{tokens, ItemTree, view, one, name, star, tuple_at, members, base_at, type_at, truth, number, value_of, set, constant, result_of, function, item_of, program};
+ghost use Rattle.grammar_example.specs.Decided.{star_decided, type_decided, item_decided, program_decided, no_program_decided};
+ghost use Rattle.grammar_example.specs.Example.{tokens, ItemTree, view, one, name, star, tuple_at, members, base_at, type_at, truth, number, value_of, set, constant, result_of, function, item_of, program, no_program};
 
 use crate::token::{Kind, Rule, Token};
 use crate::tree::{Base, Item, Value, ValueType};
 use grammar::cursor::{Cursor, Halt};
 use grammar::fault::Fault;
 use grammar::growth::{Growth, grow};
+use grammar::laws::{Language, TwoGrammars, holds_once, join_holds};
 use grammar::part::{Listed, Part, repeat, separated};
 use grammar::whole::{Refusal, read_all};
 use std::alloc::Global;
@@ -60,7 +63,11 @@ fn no_tuple<'a>(cursor: &Cursor<'a, Token>) -> Result<ValueType, Stop<'a>>
 
 /// The tuple that begins here, or its parenthesis where it is nested too deep.
 #[cycle(types)]
-fn tuple_at<'a>(alloc: Global, depth: u32, cursor: &mut Cursor<'a, Token>) -> Result<ValueType, Stop<'a>>
+fn tuple_at<'a>(
+    alloc: Global,
+    depth: u32,
+    cursor: &mut Cursor<'a, Token>,
+) -> Result<ValueType, Stop<'a>>
     ensures { Gives (λ x. x) (tuple_at depth) cursor.old cursor.new result }
 {
     if depth == 0 {
@@ -148,7 +155,11 @@ fn next_is_type(cursor: &Cursor<'_, Token>) -> bool
 
 #[cycle(types)]
 #[tactic(auto, unfolding(crate::specs::Example::base_at))]
-fn base_at<'a>(alloc: Global, depth: u32, cursor: &mut Cursor<'a, Token>) -> Result<ValueType, Stop<'a>>
+fn base_at<'a>(
+    alloc: Global,
+    depth: u32,
+    cursor: &mut Cursor<'a, Token>,
+) -> Result<ValueType, Stop<'a>>
     ensures { Gives (λ x. x) (base_at depth) cursor.old cursor.new result }
 {
     let base = if cursor.next_is(Kind::Int) {
@@ -168,7 +179,11 @@ fn base_at<'a>(alloc: Global, depth: u32, cursor: &mut Cursor<'a, Token>) -> Res
 
 #[cycle(types)]
 #[tactic(auto, unfolding(crate::specs::Example::type_at))]
-fn type_at<'a>(alloc: Global, depth: u32, cursor: &mut Cursor<'a, Token>) -> Result<ValueType, Stop<'a>>
+fn type_at<'a>(
+    alloc: Global,
+    depth: u32,
+    cursor: &mut Cursor<'a, Token>,
+) -> Result<ValueType, Stop<'a>>
     ensures { Gives (λ x. x) (type_at depth) cursor.old cursor.new result }
 {
     cursor.labelled = true;
@@ -184,7 +199,9 @@ struct Types {
 
 impl Part for Types {
     type Token = Token;
+
     type Rule = Rule;
+
     type Item = ValueType;
 
     ghost kind = { λ t. code t.kind };
@@ -243,7 +260,9 @@ struct Stars;
 
 impl Growth for Stars {
     type Token = Token;
+
     type Rule = Rule;
+
     type Item = ValueType;
 
     ghost kind = { λ t. code t.kind };
@@ -352,7 +371,9 @@ struct Items;
 
 impl Part for Items {
     type Token = Token;
+
     type Rule = Rule;
+
     type Item = Item;
 
     ghost kind = { λ t. code t.kind };
@@ -389,7 +410,9 @@ struct Program;
 
 impl Part for Program {
     type Token = Token;
+
     type Rule = Rule;
+
     type Item = Vec<Item>;
 
     ghost kind = { λ t. code t.kind };
@@ -429,4 +452,158 @@ pub fn read(alloc: Global, tokens: &[Token]) -> Result<Vec<Item>, Refusal<Rule>>
     ensures { Answers (λ v. map view v.items) program tokens.now result }
 {
     read_all(alloc, &Program, tokens)
+}
+
+impl Language for Program {
+    type Token = Token;
+
+    type Rule = Rule;
+
+    ghost kind = { λ t. code t.kind };
+
+    ghost Tree = { List ItemTree };
+
+    ghost grammar = { program };
+
+    ghost decided = { program_decided.0 };
+}
+
+/// Every list of tokens spells one program, or has one first fault.
+pub fn one_answer()
+    ensures { HoldsOnce program }
+{
+    holds_once::<Program>();
+}
+
+impl TwoGrammars for Program {
+    type Token = Token;
+
+    type Rule = Rule;
+
+    ghost kind = { λ t. code t.kind };
+
+    ghost Tree = { List ItemTree };
+
+    ghost first = { program };
+
+    ghost second = { no_program };
+
+    ghost decided = { (program_decided.0, no_program_decided) };
+}
+
+/// The same where a semicolon stands for the program without items.
+pub fn one_joined_answer()
+    ensures { JoinHolds program no_program }
+{
+    join_holds::<Program>();
+}
+
+#[cfg(test)]
+mod tests {
+    use super::*;
+
+    fn token(kind: Kind, value: u64) -> Token {
+        Token { kind, value }
+    }
+
+    /// The kinds of the tokens of a text, with 7 for each number.
+    fn read_kinds(rt: &HostRuntime, kinds: &[Kind]) -> Result<Vec<Item>, Refusal<Rule>> {
+        let mut tokens = Vec::new(rt.alloc());
+        for kind in kinds {
+            if tokens.push(token(*kind, 7)).is_err() {
+                return Err(Refusal::NoMemory);
+            }
+        }
+        read(rt.alloc(), &tokens)
+    }
+
+    #[test]
+    fn first_faults(rt: HostRuntime) {
+        use Kind::*;
+        let rows: [(&[Kind], Fault<Rule>, usize); 9] = [
+            // no end
+            (&[], Fault::Unexpected(false), 0),
+            // a type could stand there
+            (&[Const, Name, Colon, Comma], Fault::Unexpected(true), 3),
+            // another star could stand there, and no type
+            (
+                &[Const, Name, Colon, Int, Comma],
+                Fault::Unexpected(false),
+                4,
+            ),
+            // a value goes by its type
+            (
+                &[Const, Name, Colon, Int, Equals, Yes],
+                Fault::Unexpected(false),
+                5,
+            ),
+            (
+                &[Const, Name, Colon, Int, Star, Equals, Number],
+                Fault::Unexpected(false),
+                6,
+            ),
+            // a third star
+            (
+                &[Const, Name, Colon, Int, Star, Star, Star],
+                Fault::Broken(Rule::TooDeep),
+                6,
+            ),
+            // a tuple in a tuple in a tuple
+            (
+                &[Function, Name, Open, Open, Open, Open],
+                Fault::Broken(Rule::TooDeep),
+                5,
+            ),
+            // nothing comes after the comma
+            (
+                &[Function, Name, Open, Int, Comma, Close],
+                Fault::Unexpected(true),
+                5,
+            ),
+            // the program ends before the text
+            (&[End, End], Fault::Unexpected(false), 1),
+        ];
+        for (tokens, fault, before) in rows {
+            match read_kinds(&rt, tokens) {
+                Err(Refusal::Refused(found, place)) => {
+                    assert_eq!(rt; found, fault, "at {before}");
+                    assert_eq!(rt; place, before, "of {before}");
+                }
+                _ => assert!(rt; false, "read up to {before}"),
+            }
+        }
+    }
+
+    #[test]
+    fn reads_items(rt: HostRuntime) {
+        use Kind::*;
+        let text = [
+            Const, Name, Colon, Unit, Semicolon, Const, Name, Colon, Int, Equals, Number,
+            Semicolon, Function, Name, Open, Open, Int, Comma, Bool, Close, Star, Close, Colon,
+            Bool, Semicolon, End,
+        ];
+        match read_kinds(&rt, &text) {
+            Ok(items) => {
+                assert_eq!(rt; items.len(), 3);
+                assert!(rt;
+                    matches!(&items[0], Item::Const(7, ty, Value::Nothing) if ty.base == Base::Unit)
+                );
+                assert!(rt;
+                    matches!(&items[1], Item::Const(7, ty, Value::Number(7)) if ty.base == Base::Int)
+                );
+                match &items[2] {
+                    Item::Function(7, params, Some(result)) => {
+                        assert_eq!(rt; params.len(), 1);
+                        assert_eq!(rt; params[0].base, Base::Tuple(2));
+                        assert_eq!(rt; params[0].stars, 1);
+                        assert_eq!(rt; result.base, Base::Bool);
+                    }
+                    _ => assert!(rt; false, "a function"),
+                }
+            }
+            Err(_) => assert!(rt; false, "a program"),
+        }
+        one_answer();
+        one_joined_answer();
+    }
 }

@@ -46,6 +46,7 @@ pub enum Rule {
 
 impl Terminal for Token {
     type Kind = Kind;
+
     type Rule = Rule;
 
     ghost kind = { λ t. code t.kind };

@@ -1,20 +1,20 @@
 -- What one token of look-ahead answers is right, and nothing else is.
-use Rattle.std.specs.Prelude.{nat_eq, Result, Ok, Err}
-use Rattle.std.proofs.Common.{◌≡◌, ◌-◌, ℕ, zero, suc, ◌+◌, ◌<◌, ◌≤◌, Bool, true, false, ◌||◌, ◌&&◌, cond, Option, Some, None, List, [], ◌∷◌, ◌++◌, length, ◌⊎◌, inl, inr, refl, sym, ap, ◌∙◌, subst, append_assoc, length-append, arith, rules}
+use Rattle.std.specs.Prelude.{Ok, Err}
+use Rattle.std.proofs.Common.{◌≡◌, ◌-◌, ℕ, Bool, true, false, Some, None, List, [], ◌∷◌, ◌++◌, length, ◌⊎◌, inl, inr, refl, sym, ap, ◌∙◌, subst, append_assoc, length-append, arith}
 use Rattle.grammar.specs.declared.fault.Fault.{Fault}
 use Rattle.grammar.specs.declared.fault.Fault.TheVariants.{Unexpected, Broken}
-use Rattle.grammar.specs.Grammar.{Alphabet, Grammar, nothing, tok, seq, alt, opt, rep, as_tree, dep, grow, labelled, has, is_in, begins_with}
-use Rattle.grammar.specs.LookAhead.{nullable, firsts, extensions, labels, apart, within, LL1}
-use Rattle.grammar.specs.Language.{Sentence, both, maybe, many, steps, last_of, growth, Derives, Ending, Fine, Labelled, Breaks, Prefixes, one, empty_front, label_front, both_front, many_front, growth_front, Front, IsUnexpected, IsBroken, IsFault, Misread, Answer, Holds}
-use Rattle.grammar.specs.Reading.{Out, Got, Stop, Read, then_do, kept, read_one, read_both, read_maybe, read_many, read_growth, read, answered, answer}
+use Rattle.grammar.specs.Grammar.{Alphabet, Grammar, nothing, tok, seq, alt, opt, rep, as_tree, dep, grow, labelled}
+use Rattle.grammar.specs.LookAhead.{LL1}
+use Rattle.grammar.specs.Language.{last_of, Derives, Ending, Fine, Labelled, Breaks, one, Front, IsUnexpected, IsBroken, IsFault, Misread, Answer, Holds}
+use Rattle.grammar.specs.Reading.{Out, Got, Stop, read, answered, answer}
 use Rattle.grammar.specs.Laws.{HoldsOnce, OneTree, PrefixClosed, AnswersExactly}
-use Rattle.grammar.proofs.Basics.{no_parts, append_none, ends_none, true_false}
-use Rattle.grammar.proofs.Swap.{Swapped, FaultFact, LabelFact, swaps, alike, alike_for}
-use Rattle.grammar.proofs.Begin.{Shows, Ends, EndsFor}
+use Rattle.grammar.proofs.Basics.{append_none}
+use Rattle.grammar.proofs.Swap.{Swapped, LabelFact, swaps, alike}
+use Rattle.grammar.proofs.Begin.{Ends}
 use Rattle.grammar.proofs.Complete.{derives_read, front_read}
 
 module _ (L : Alphabet) where
-  -- a sentence is a Front
+  -- a sentence is a viable prefix
 
   pub front_start : {A : Type 0} (g : Grammar L A) → Front g Fine []
   front_start (nothing y) = refl
@@ -67,7 +67,7 @@ module _ (L : Alphabet) where
   -- what is said of an outcome, apart from whether it is a tree
 
   module _ {A : Type 0} (g : Grammar L A) (p : LL1 g) where
-    -- what ends wrongly before a token is no Front with it
+    -- what ends wrongly before a token is no viable prefix with it
     no_front_got : (us : List L.Token) (x : A) (d : Bool) (t : L.Token) (m : Ending L) → read g false (us ++ t ∷ []) ≡ Got x d (t ∷ []) → Front g m (us ++ t ∷ []) → ⊥
     no_front_got us x d t m h f = let e = subst (Ends L m) h (front_read L g p m (us ++ t ∷ []) f false) in absurd (let i = e.0 in cc)
 
@@ -77,7 +77,7 @@ module _ (L : Alphabet) where
     fine_broken : (us : List L.Token) (r : L.Rule) (t : L.Token) → read g false (us ++ t ∷ []) ≡ Stop (Broken r) (t ∷ []) → Front g Fine (us ++ t ∷ []) → ⊥
     fine_broken us r t h f = subst (Ends L Fine) h (front_read L g p Fine (us ++ t ∷ []) f false)
 
-    -- where a type may stand next, the reading says so
+    -- where a labelled part may begin next, the reading says so
     label_got : (us : List L.Token) (x : A) (d : Bool) → read g false us ≡ Got x d [] → Front g Labelled us → d ≡ true
     label_got us x d h f = (subst (Ends L Labelled) h (front_read L g p Labelled us f false)).1
 
@@ -99,10 +99,6 @@ module _ (L : Alphabet) where
     same_flag false true f k = k refl
     same_flag false false f k = refl
 
-    -- where a reading is at us, and what it says there of a label
-    at : (us : List L.Token) (o : Out L A) → ((v : List L.Token) → alike L [] v → read g false (us ++ v) ≡ o) → read g false us ≡ o
-    at us o h = ap (read g false) (sym (append_none us)) ∙ h [] tt
-
     sound : (ts : List L.Token) (o : Out L A) → Swapped L (Derives g) (Front g) (read g) false ts o → Holds g ts (answered ts o)
     sound ts (Got x d []) h = subst (λ z. Derives g z x) (sym (h.1 ∙ append_none h.0)) h.2
     sound ts (Got x d (t ∷ v)) h = (
@@ -118,13 +114,13 @@ module _ (L : Alphabet) where
       ),
     )
     sound ts (Stop (Unexpected d) []) h = (
-        h.0,
-        [],
-        h.1,
-        taken_length ts h.0 [] h.1,
-        h.2,
-        (not_derives h, label_says h.0 d h.3, label_wrong h.0 d (ap (read g false) (sym (append_none h.0)) ∙ h.4 [] tt)),
-      )
+      h.0,
+      [],
+      h.1,
+      taken_length ts h.0 [] h.1,
+      h.2,
+      (not_derives h, label_says h.0 d h.3, label_wrong h.0 d (ap (read g false) (sym (append_none h.0)) ∙ h.4 [] tt)),
+    )
       where
         not_derives : (h : Swapped L (Derives g) (Front g) (read g) false ts (Stop (Unexpected d) [])) → (x : A) → Derives g h.0 x → ⊥
         not_derives h x w = let i = derives_read L g p h.0 x w false [] refl in let j = sym (h.4 [] tt) ∙ i.1 in cc

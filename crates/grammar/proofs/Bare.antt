@@ -1,11 +1,10 @@
 -- A grammar and the same without its side rules.
-use Rattle.std.proofs.Common.{◌≡◌, ℕ, zero, suc, Bool, true, false, ◌||◌, ◌&&◌, cond, Option, Some, None, List, [], ◌∷◌, ◌++◌, length, ◌⊎◌, inl, inr, refl, sym, ap, ◌∙◌, subst, arith, rules}
-use Rattle.grammar.specs.declared.fault.Fault.{Fault}
+use Rattle.std.proofs.Common.{◌≡◌, ℕ, zero, suc, Bool, true, false, ◌||◌, cond, Option, Some, None, List, [], ◌∷◌, length, ◌⊎◌, inl, inr, refl, sym, ap, ◌∙◌, subst}
 use Rattle.grammar.specs.declared.fault.Fault.TheVariants.{Unexpected, Broken}
 use Rattle.grammar.specs.Grammar.{Alphabet, Grammar, nothing, tok, seq, alt, opt, rep, as_tree, dep, grow, labelled, any, is_in, begins_with}
-use Rattle.grammar.specs.LookAhead.{nullable, firsts, extensions, labels, apart, within, LL1}
-use Rattle.grammar.specs.Language.{Sentence, both, maybe, many, steps, last_of, growth, Derives, Ending, Fine, Labelled, Breaks, Prefixes, one, empty_front, label_front, both_front, many_front, growth_front, Front}
-use Rattle.grammar.specs.Reading.{Out, Got, Stop, Read, then_do, kept, read_one, read_both, read_maybe, read_many, read_growth, read}
+use Rattle.grammar.specs.LookAhead.{nullable, firsts, extensions, labels, LL1}
+use Rattle.grammar.specs.Language.{Sentence, many, steps, last_of, Derives, Ending, Fine, Labelled, Breaks, one, empty_front, label_front, Front}
+use Rattle.grammar.specs.Reading.{Out, Got, Stop, Read, then_do, kept, read_one, read_many, read_growth, read}
 use Rattle.grammar.specs.Aside.{bare}
 
 -- the same look-ahead

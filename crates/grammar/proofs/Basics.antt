@@ -1,12 +1,8 @@
--- What a sentence and a front begin with.
+-- Lists, and tests of kinds.
 use Rattle.std.specs.Prelude.{nat_eq}
-use Rattle.std.proofs.Common.{◌≡◌, ℕ, zero, suc, ◌+◌, ◌<◌, ◌≤◌, Bool, true, false, ◌||◌, ◌&&◌, cond, Option, Some, None, List, [], ◌∷◌, ◌++◌, length, ◌⊎◌, inl, inr, refl, sym, ap, ◌∙◌, subst, append_assoc, length-append, arith, rules}
-use Rattle.grammar.specs.declared.fault.Fault.{Fault}
-use Rattle.grammar.specs.declared.fault.Fault.TheVariants.{Unexpected, Broken}
-use Rattle.grammar.specs.Grammar.{Alphabet, Grammar, nothing, tok, seq, alt, opt, rep, as_tree, dep, grow, labelled, has, is_in, begins_with}
-use Rattle.grammar.specs.LookAhead.{nullable, firsts, extensions, labels, apart, within, LL1}
-use Rattle.grammar.specs.Language.{Sentence, both, maybe, many, steps, last_of, growth, Derives, Ending, Fine, Labelled, Breaks, Prefixes, one, empty_front, label_front, both_front, many_front, growth_front, Front}
-use Rattle.grammar.specs.Reading.{Out, Got, Stop, Read, then_do, kept, read_one, read_both, read_maybe, read_many, read_growth, read}
+use Rattle.std.proofs.Common.{◌≡◌, ℕ, Bool, true, false, ◌||◌, ◌&&◌, List, [], ◌∷◌, ◌++◌, ◌⊎◌, inl, inr, refl, sym, ap, ◌∙◌, arith}
+use Rattle.grammar.specs.Grammar.{Alphabet, has, begins_with}
+use Rattle.grammar.specs.LookAhead.{apart, within}
 
 -- lists and tests
 

@@ -1,13 +1,11 @@
--- Each sentence is read, and each front is read to its end.
-use Rattle.std.specs.Prelude.{nat_eq}
-use Rattle.std.proofs.Common.{◌≡◌, ℕ, zero, suc, ◌+◌, ◌<◌, ◌≤◌, Bool, true, false, ◌||◌, ◌&&◌, cond, Option, Some, None, List, [], ◌∷◌, ◌++◌, length, ◌⊎◌, inl, inr, refl, sym, ap, ◌∙◌, subst, append_assoc, length-append, arith, rules}
-use Rattle.grammar.specs.declared.fault.Fault.{Fault}
+-- What sentences and viable prefixes begin with, and how readings end.
+use Rattle.std.proofs.Common.{◌≡◌, ℕ, Bool, true, false, ◌||◌, ◌&&◌, cond, Option, Some, None, List, [], ◌∷◌, ◌++◌, inl, inr, refl, sym, ap, ◌∙◌, subst}
 use Rattle.grammar.specs.declared.fault.Fault.TheVariants.{Unexpected, Broken}
-use Rattle.grammar.specs.Grammar.{Alphabet, Grammar, nothing, tok, seq, alt, opt, rep, as_tree, dep, grow, labelled, has, is_in, begins_with}
-use Rattle.grammar.specs.LookAhead.{nullable, firsts, extensions, labels, apart, within, LL1}
-use Rattle.grammar.specs.Language.{Sentence, both, maybe, many, steps, last_of, growth, Derives, Ending, Fine, Labelled, Breaks, Prefixes, one, empty_front, label_front, both_front, many_front, growth_front, Front}
-use Rattle.grammar.specs.Reading.{Out, Got, Stop, Read, then_do, kept, read_one, read_both, read_maybe, read_many, read_growth, read}
-use Rattle.grammar.proofs.Basics.{no_parts, or_true, or_false, or_cases, and_cases, has-append, begins-append, apart_one, within_one, append_none, ends_none, true_false, or_right, or_left}
+use Rattle.grammar.specs.Grammar.{Alphabet, Grammar, nothing, tok, seq, alt, opt, rep, as_tree, dep, grow, labelled, has, is_in}
+use Rattle.grammar.specs.LookAhead.{nullable, firsts, labels, LL1}
+use Rattle.grammar.specs.Language.{Sentence, many, steps, last_of, Derives, Ending, Fine, Labelled, Breaks, one, empty_front, label_front, Front}
+use Rattle.grammar.specs.Reading.{Out, Got, Stop, Read, then_do, read}
+use Rattle.grammar.proofs.Basics.{no_parts, or_true, has-append, true_false, or_right, or_left}
 
 module _ (L : Alphabet) where
   in_left : (t : L.Token) (xs ys : List ℕ) → is_in L t xs ≡ true → is_in L t (xs ++ ys) ≡ true
@@ -122,7 +120,7 @@ module _ (L : Alphabet) where
   derives_first (grow x s f) p y t ts w = growth_begin (λ z. firsts (f z)) (λ z. Derives (f z)) (λ z y t ts. derives_first (f z) (p z).0 y t ts) (λ z y. never_none (f z) (p z).0 (p z).1 y) x w.0 t ts w.2
   derives_first (labelled a) p x t ts w = derives_first a p x t ts w
 
-  -- what a Front begins with
+  -- what a viable prefix begins with
 
   one_first : (s : List ℕ) (q : L.Token → Option L.Rule) (m : Ending L) (t : L.Token) (ts : List L.Token) → one L s q m (t ∷ ts) → is_in L t s ≡ true
   one_first s q Fine t [] h = h.0
@@ -167,7 +165,7 @@ module _ (L : Alphabet) where
   front_first (labelled a) p m t ts (inl h) = absurd (label_first m t ts h)
   front_first (labelled a) p m t ts (inr h) = front_first a p m t ts h
 
-  -- what an empty Front says
+  -- what an empty viable prefix says
 
   one_none : (s : List ℕ) (q : L.Token → Option L.Rule) (m : Ending L) (d : Bool) → one L s q m [] → Shows m d
   one_none s q Fine d h = tt

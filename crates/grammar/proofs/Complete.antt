@@ -1,13 +1,10 @@
--- Each sentence is read, and each front is read to its end.
-use Rattle.std.specs.Prelude.{nat_eq}
-use Rattle.std.proofs.Common.{◌≡◌, ℕ, zero, suc, ◌+◌, ◌<◌, ◌≤◌, Bool, true, false, ◌||◌, ◌&&◌, cond, Option, Some, None, List, [], ◌∷◌, ◌++◌, length, ◌⊎◌, inl, inr, refl, sym, ap, ◌∙◌, subst, append_assoc, length-append, arith, rules}
-use Rattle.grammar.specs.declared.fault.Fault.{Fault}
-use Rattle.grammar.specs.declared.fault.Fault.TheVariants.{Unexpected, Broken}
-use Rattle.grammar.specs.Grammar.{Alphabet, Grammar, nothing, tok, seq, alt, opt, rep, as_tree, dep, grow, labelled, has, is_in, begins_with}
+-- Each sentence is read, and each viable prefix is read to its end.
+use Rattle.std.proofs.Common.{◌≡◌, ℕ, zero, suc, ◌≤◌, Bool, true, false, ◌||◌, cond, Option, Some, None, List, [], ◌∷◌, ◌++◌, length, inl, inr, refl, sym, ap, ◌∙◌, subst, append_assoc, length-append, arith}
+use Rattle.grammar.specs.Grammar.{Alphabet, Grammar, nothing, tok, seq, alt, opt, rep, as_tree, dep, grow, labelled, is_in, begins_with}
 use Rattle.grammar.specs.LookAhead.{nullable, firsts, extensions, labels, apart, within, LL1}
-use Rattle.grammar.specs.Language.{Sentence, both, maybe, many, steps, last_of, growth, Derives, Ending, Fine, Labelled, Breaks, Prefixes, one, empty_front, label_front, both_front, many_front, growth_front, Front}
-use Rattle.grammar.specs.Reading.{Out, Got, Stop, Read, then_do, kept, read_one, read_both, read_maybe, read_many, read_growth, read}
-use Rattle.grammar.proofs.Basics.{no_parts, or_true, or_false, or_cases, and_cases, has-append, begins-append, apart_one, within_one, append_none, ends_none, true_false, or_right}
+use Rattle.grammar.specs.Language.{Sentence, many, steps, last_of, Derives, Ending, Fine, Labelled, Breaks, one, empty_front, label_front, Front}
+use Rattle.grammar.specs.Reading.{Got, Read, then_do, read_one, read_both, read_many, read_growth, read}
+use Rattle.grammar.proofs.Basics.{or_false, begins-append, apart_one, within_one, append_none, or_right}
 use Rattle.grammar.proofs.Begin.{Shows, Ends, then_ends, at_end, derives_none, never_none, derives_first, front_first, front_none, many_begin, many_front_first, shows_more, shows_eq, growth_begin, growth_front_first}
 
 module _ (L : Alphabet) where
@@ -44,7 +41,7 @@ module _ (L : Alphabet) where
     many_goes : (us : List L.Token) (xs : List A) (v : List L.Token) → many wa us xs → begins_with L k v ≡ false → begins_with L k (us ++ v) ≡ false
     many_goes us xs v w e = second_apart k s us v split (λ t ts f. many_begin L s wa first some xs t ts (subst (λ z. many wa z xs) f w)) (λ f. e)
 
-    -- one Derives, read before the rest of them
+    -- one sentence, read before the rest of them
     one_step : (n : ℕ) (c : Bool) (us : List L.Token) (x : A) (ts : List L.Token) → wa us x → begins_with L k ts ≡ false → length (us ++ ts) ≤ n → (d : Bool) × (m : ℕ) × (length ts ≤ m) × (read_many s y ra n c (us ++ ts) ≡ then_do (read_many s y ra m d ts) (λ xs e vs. Got (x ∷ xs) e vs))
     one_step n c [] x ts w e le = absurd (some x w)
     one_step zero c (u ∷ us) x ts w e le = absurd (omega arith)
@@ -66,7 +63,7 @@ module _ (L : Alphabet) where
         let h = many_read g.1 w.1 xs w.4 g.0 v e f g.2 in
         (h.0, ap (read_many s y ra n c) i ∙ g.3 ∙ ap (λ o. then_do o (λ xs e vs. Got (x ∷ xs) e vs)) h.1)
 
-    -- a Front of repetitions
+    -- a viable prefix of repetitions
     module _ (m : Ending L) (P : List L.Token → Type 0) (starts_front : (t : L.Token) (ts : List L.Token) → P (t ∷ ts) → is_in L t s ≡ true) (none_front : P [] → Shows L m y) (each_front : (ts : List L.Token) → P ts → (c : Bool) → Ends L m (ra c ts)) where
       last_front : (n : ℕ) (c : Bool) (ts : List L.Token) → P ts → length ts ≤ n → Ends L m (read_many s y ra n c ts)
       last_front zero c [] h le = (refl, shows_eq L m y _ (none_front h) (or_right c y))
@@ -177,7 +174,7 @@ module _ (L : Alphabet) where
       subst (λ z. IsRead (read (grow x s f)) c us z v) (sym w.1) h
   derives_read (labelled a) p us x w c v e = derives_read a p us x w true v e
 
-  -- Each Front is read to its end.
+  -- Each viable prefix is read to its end.
 
   one_ends : (s : List ℕ) (q : L.Token → Option L.Rule) (m : Ending L) (ts : List L.Token) → one L s q m ts → (c : Bool) → Ends L m (read_one L s q c ts)
   one_ends s q Fine [] h c = (refl, tt)

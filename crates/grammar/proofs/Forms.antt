@@ -1,11 +1,11 @@
 -- The forms that grammars share: what they begin with, and how they are read.
-use Rattle.std.proofs.Common.{◌≡◌, ℕ, Bool, true, false, ◌||◌, ◌&&◌, cond, Option, Some, None, List, [], ◌∷◌, ◌++◌, refl, sym, ap, ◌∙◌, subst}
+use Rattle.std.proofs.Common.{◌≡◌, ℕ, Bool, true, false, ◌||◌, ◌&&◌, Some, List, [], ◌∷◌, ◌++◌, refl, sym, ap, ◌∙◌}
 use Rattle.grammar.specs.declared.fault.Fault.{Fault}
 use Rattle.grammar.specs.declared.cursor.Halt.{Halt}
 use Rattle.grammar.specs.declared.cursor.Halt.TheVariants.{Memory, At}
 use Rattle.grammar.specs.Grammar.{Alphabet, Grammar, seq, opt, rep, as_tree, preceded, listed, cons, or_none, begins_with}
 use Rattle.grammar.specs.LookAhead.{nullable, firsts, labels, LL1}
-use Rattle.grammar.specs.Reading.{Out, Got, Stop, Read, then_do, read_maybe, read}
+use Rattle.grammar.specs.Reading.{Out, Got, Stop, then_do, read}
 use Rattle.grammar.specs.Clauses.{Fails}
 use Rattle.grammar.proofs.Basics.{append_none}
 

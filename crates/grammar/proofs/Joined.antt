@@ -1,16 +1,16 @@
 -- Two grammars of one language: their answers joined are those of the union.
-use Rattle.std.specs.Prelude.{Result, Ok, Err, nat_lt}
+use Rattle.std.specs.Prelude.{Ok, Err, nat_lt}
 use Rattle.std.proofs.Common.{◌≡◌, ℕ, ◌<◌, Bool, true, false, ◌||◌, cond, List, [], ◌∷◌, ◌++◌, length, ◌⊎◌, inl, inr, refl, sym, ap, ◌∙◌, subst, append_assoc, length-append, arith}
 use Rattle.std.proofs.lemmas.Bool.Decides.{nat_tests}
 use Rattle.grammar.specs.declared.fault.Fault.{Fault}
 use Rattle.grammar.specs.declared.fault.Fault.TheVariants.{Unexpected, Broken}
 use Rattle.grammar.specs.Grammar.{Alphabet, Grammar, alt}
 use Rattle.grammar.specs.LookAhead.{LL1}
-use Rattle.grammar.specs.Language.{Derives, Ending, Fine, Labelled, Breaks, Front, IsFault, Misread, Answer, Holds}
+use Rattle.grammar.specs.Language.{Derives, Fine, Labelled, Breaks, Front, IsFault, Misread, Answer, Holds}
 use Rattle.grammar.specs.Reading.{Out, Got, Stop, read, answer}
 use Rattle.grammar.specs.Union.{EitherDerives, EitherBreaks, IsEitherFault, EitherMisread, EitherHolds, join_faults, later, join, JoinHolds}
-use Rattle.grammar.proofs.Basics.{append_none, ends_none, or_cases, or_right, or_left}
-use Rattle.grammar.proofs.Begin.{Ends, Shows}
+use Rattle.grammar.proofs.Basics.{append_none, or_cases, or_right, or_left}
+use Rattle.grammar.proofs.Begin.{Ends}
 use Rattle.grammar.proofs.Complete.{front_read}
 use Rattle.grammar.proofs.Swap.{Swapped, swaps}
 use Rattle.grammar.proofs.Answer.{derives_front, front_prefix, split_cases, last_same, answer_holds, spelled_answered, misread_answered}

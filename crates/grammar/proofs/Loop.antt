@@ -1,18 +1,12 @@
 -- The turns of a loop that reads a repetition.
-use Rattle.std.specs.Prelude.{nat_eq, Result, Ok, Err}
-use Rattle.std.proofs.Common.{◌≡◌, ℕ, zero, suc, ◌+◌, ◌<◌, ◌≤◌, Bool, true, false, ◌||◌, ◌&&◌, cond, Option, Some, None, List, [], ◌∷◌, ◌++◌, length, ◌⊎◌, inl, inr, refl, sym, ap, ◌∙◌, subst, append_assoc, length-append, map, Vec, Global, arith, rules}
-use Rattle.grammar.specs.declared.fault.Fault.{Fault}
-use Rattle.grammar.specs.declared.fault.Fault.TheVariants.{Unexpected, Broken}
-use Rattle.grammar.specs.Grammar.{Alphabet, Grammar, nothing, tok, seq, alt, opt, rep, as_tree, dep, grow, labelled, has, is_in, begins_with}
-use Rattle.grammar.specs.LookAhead.{nullable, firsts, extensions, labels, apart, within, LL1}
-use Rattle.grammar.specs.Language.{Sentence, both, maybe, many, steps, last_of, growth, Derives, Ending, Fine, Labelled, Breaks, Prefixes, one, empty_front, label_front, both_front, many_front, growth_front, Front}
-use Rattle.grammar.specs.Reading.{Out, Got, Stop, Read, then_do, kept, read_one, read_both, read_maybe, read_many, read_growth, read}
-use Rattle.std.proofs.lemmas.List.{map-append, append-nil}
+use Rattle.std.proofs.Common.{◌≡◌, Bool, true, false, ◌||◌, List, [], ◌∷◌, refl, sym, ap, ◌∙◌}
+use Rattle.grammar.specs.Grammar.{Alphabet, Grammar, rep, as_tree, begins_with}
+use Rattle.grammar.specs.LookAhead.{firsts, labels, LL1}
+use Rattle.grammar.specs.Reading.{Out, Got, Stop, then_do, read}
 use Rattle.grammar.specs.declared.cursor.Halt.{Halt}
 use Rattle.grammar.specs.declared.cursor.Halt.TheVariants.{Memory, At}
-use Rattle.grammar.specs.declared.cursor.Cursor.{Cursor}
-use Rattle.grammar.specs.Clauses.{Gives, Fails}
-use Rattle.grammar.proofs.Steps.{turn, no_turn, stopped_turn, shorter, growth_turn, no_growth, stopped_growth}
+use Rattle.grammar.specs.Clauses.{Fails}
+use Rattle.grammar.proofs.Steps.{turn, no_turn, stopped_turn}
 
 pub or_false_right : (c : Bool) → (c || false) ≡ c
 or_false_right true = refl
@@ -33,10 +27,3 @@ module _ (L : Alphabet) where
     pub fails : (f : List A → B) (all : Out L B) (c : Bool) (ts : List L.Token) (e : Halt L.Token L.Rule) → begins_with L (firsts g) ts ≡ true → Fails e (read g c ts) → read (as_tree f (rep g)) c ts ≡ all → Fails e all
     fails f all c ts Memory b i j = tt
     fails f all c ts (At w rest) b i j = sym j ∙ ap (λ o. then_do o (λ xs d us. Got (f xs) d us)) (stopped_turn L g c ts w rest.now b i)
-
-  pub same_out : {A : Type 0} (o : Out L A) → then_do o (λ x d us. Got x d us) ≡ o
-  same_out (Got x d us) = refl
-  same_out (Stop w us) = refl
-
-pub one_more : {X A : Type 0} (view : X → A) (vs : List X) (v : X) (xs : List A) → map view (vs ++ v ∷ []) ++ xs ≡ map view vs ++ view v ∷ xs
-one_more view vs v xs = ap (λ z. z ++ xs) (map-append view vs (v ∷ [])) ∙ append_assoc (map view vs) (view v ∷ []) xs

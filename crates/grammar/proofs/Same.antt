@@ -1,12 +1,12 @@
 -- Side rules kept or left aside in viable prefixes: the first fault is the same.
-use Rattle.std.proofs.Common.{◌≡◌, ℕ, Bool, true, false, List, [], ◌∷◌, ◌++◌, length, ◌⊎◌, inl, inr, refl, sym, ap, ◌∙◌, subst, append_assoc}
+use Rattle.std.proofs.Common.{◌≡◌, false, List, [], ◌∷◌, ◌++◌, ◌⊎◌, inl, inr, refl, sym, ap, ◌∙◌, subst, append_assoc}
 use Rattle.grammar.specs.declared.fault.Fault.{Fault}
 use Rattle.grammar.specs.declared.fault.Fault.TheVariants.{Unexpected, Broken}
 use Rattle.grammar.specs.Grammar.{Alphabet, Grammar}
 use Rattle.grammar.specs.LookAhead.{LL1}
-use Rattle.grammar.specs.Language.{Derives, Ending, Fine, Labelled, Breaks, Front, IsFault, Misread}
+use Rattle.grammar.specs.Language.{Derives, Ending, Fine, Labelled, Breaks, Front, IsFault}
 use Rattle.grammar.specs.Reading.{Out, Got, Stop, read}
-use Rattle.grammar.specs.Aside.{bare, KeepsRules, IsFaultAside, MisreadAside, SameFault}
+use Rattle.grammar.specs.Aside.{bare, KeepsRules, IsFaultAside, SameFault}
 use Rattle.grammar.proofs.Basics.{no_parts, ends_none}
 use Rattle.grammar.proofs.Begin.{Ends}
 use Rattle.grammar.proofs.Complete.{derives_read, front_read}

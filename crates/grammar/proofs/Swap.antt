@@ -1,13 +1,12 @@
--- A reading, and the same before other tokens.
-use Rattle.std.specs.Prelude.{nat_eq}
-use Rattle.std.proofs.Common.{◌≡◌, ℕ, zero, suc, ◌+◌, ◌<◌, ◌≤◌, Bool, true, false, ◌||◌, ◌&&◌, cond, Option, Some, None, List, [], ◌∷◌, ◌++◌, length, ◌⊎◌, inl, inr, refl, sym, ap, ◌∙◌, subst, append_assoc, length-append, arith, rules}
+-- What is read is a sentence or a viable prefix, and the reading is the same before other tokens.
+use Rattle.std.proofs.Common.{◌≡◌, ℕ, zero, suc, ◌<◌, ◌≤◌, Bool, true, false, ◌||◌, ◌&&◌, cond, Option, Some, None, List, [], ◌∷◌, ◌++◌, length, ◌⊎◌, inl, inr, refl, sym, ap, ◌∙◌, subst, append_assoc, length-append, arith}
 use Rattle.grammar.specs.declared.fault.Fault.{Fault}
 use Rattle.grammar.specs.declared.fault.Fault.TheVariants.{Unexpected, Broken}
-use Rattle.grammar.specs.Grammar.{Alphabet, Grammar, nothing, tok, seq, alt, opt, rep, as_tree, dep, grow, labelled, has, is_in, begins_with}
-use Rattle.grammar.specs.LookAhead.{nullable, firsts, extensions, labels, apart, within, LL1}
-use Rattle.grammar.specs.Language.{Sentence, both, maybe, many, steps, last_of, growth, Derives, Ending, Fine, Labelled, Breaks, Prefixes, one, empty_front, label_front, both_front, many_front, growth_front, Front}
+use Rattle.grammar.specs.Grammar.{Alphabet, Grammar, nothing, tok, seq, alt, opt, rep, as_tree, dep, grow, labelled, is_in, begins_with}
+use Rattle.grammar.specs.LookAhead.{nullable, firsts, labels, LL1}
+use Rattle.grammar.specs.Language.{Sentence, both, maybe, many, growth, Derives, Ending, Fine, Labelled, Breaks, Prefixes, one, label_front, both_front, many_front, growth_front, Front}
 use Rattle.grammar.specs.Reading.{Out, Got, Stop, Read, then_do, kept, read_one, read_both, read_maybe, read_many, read_growth, read}
-use Rattle.grammar.proofs.Basics.{or_false, or_cases, and_cases, begins-append, append_none, ends_none}
+use Rattle.grammar.proofs.Basics.{or_cases, and_cases, ends_none}
 use Rattle.grammar.proofs.Going.{Moved, Moves, moves}
 
 module _ (L : Alphabet) where
@@ -31,7 +30,7 @@ module _ (L : Alphabet) where
   alike_front [] rest v h = h
   alike_front (u ∷ us) rest v h = refl
 
-  -- where the reading says that a type may stand next, one may
+  -- where the reading says that a labelled part may begin next, one may
   abbrev pub LabelFact : Prefixes L → Bool → List L.Token → Bool → Type 0
   LabelFact p c us d = d ≡ true → ((us ≡ []) × (c ≡ true)) ⊎ p Labelled us
 
@@ -39,7 +38,7 @@ module _ (L : Alphabet) where
   FaultFact p c us (Unexpected d) rest = LabelFact p c us d
   FaultFact p c us (Broken r) rest = (t : L.Token) × (v : List L.Token) × (rest ≡ t ∷ v) × p (Breaks r) (us ++ t ∷ [])
 
-  -- What is read is a sentence, what is read before a fault is a Front, and the reading is the same before other tokens.
+  -- What is read is a sentence, what is read before a fault is a viable prefix, and the reading is the same before other tokens.
   abbrev pub Swapped : {A : Type 0} → Sentence L.Token A → Prefixes L → Read L A → Bool → List L.Token → Out L A → Type 0
   Swapped w p r c ts (Got x d rest) = (us : List L.Token) × (ts ≡ us ++ rest) × w us x × LabelFact p c us d × ((v : List L.Token) → alike rest v → r c (us ++ v) ≡ Got x d v)
   Swapped w p r c ts (Stop y rest) = (us : List L.Token) × (ts ≡ us ++ rest) × p Fine us × FaultFact p c us y rest × ((v : List L.Token) → alike_for y rest v → r c (us ++ v) ≡ Stop y v)

@@ -1,13 +1,13 @@
 -- What reading all of the tokens answers.
-use Rattle.std.specs.Prelude.{Result, Ok, Err, nat_eq}
-use Rattle.std.proofs.Common.{◌≡◌, ◌-◌, ◌≤◌, Bool, true, false, List, [], ◌∷◌, length, refl, sym, ap, ◌∙◌, subst, arith}
+use Rattle.std.specs.Prelude.{Ok, Err, nat_eq}
+use Rattle.std.proofs.Common.{◌≡◌, ◌-◌, ◌≤◌, Bool, true, false, List, [], ◌∷◌, length, refl, ap, ◌∙◌, subst, arith}
 use Rattle.std.proofs.lemmas.Bool.Decides.{nat_tests}
 use Rattle.grammar.specs.declared.fault.Fault.{Fault}
 use Rattle.grammar.specs.declared.fault.Fault.TheVariants.{Unexpected}
 use Rattle.grammar.specs.Grammar.{Alphabet, Grammar}
 use Rattle.grammar.specs.LookAhead.{LL1}
 use Rattle.grammar.specs.Language.{Holds}
-use Rattle.grammar.specs.Reading.{Out, Got, Stop, read, answered}
+use Rattle.grammar.specs.Reading.{Got, Stop, read, answered}
 use Rattle.grammar.proofs.Going.{Shrunk, shrinks}
 use Rattle.grammar.proofs.Answer.{answer_holds}
 

@@ -1,13 +1,14 @@
 -- What a loop of a hand-written reader has to show, turn by turn: one lemma for each goal.
 -- `trees` are the trees of the items so far, and `added` says how one more item adds its own.
-use Rattle.std.proofs.Common.{◌≡◌, ℕ, ◌<◌, Bool, true, false, ◌||◌, List, [], ◌∷◌, ◌++◌, length, refl, sym, ap, ◌∙◌, subst, append_assoc}
+use Rattle.std.proofs.Common.{◌≡◌, ℕ, ◌<◌, Bool, true, false, ◌||◌, List, [], ◌∷◌, ◌++◌, length, sym, ap, ◌∙◌, subst, append_assoc}
 use Rattle.std.proofs.lemmas.List.{append-nil}
 use Rattle.grammar.specs.declared.cursor.Halt.{Halt}
-use Rattle.grammar.specs.Grammar.{Alphabet, Grammar, rep, as_tree, preceded, listed, begins_with}
+use Rattle.grammar.specs.declared.cursor.Halt.TheVariants.{Memory, At}
+use Rattle.grammar.specs.Grammar.{Alphabet, Grammar, rep, grow, as_tree, preceded, listed, begins_with}
 use Rattle.grammar.specs.LookAhead.{nullable, firsts, labels, LL1}
-use Rattle.grammar.specs.Reading.{Out, Got, Stop, read}
+use Rattle.grammar.specs.Reading.{Out, Got, read}
 use Rattle.grammar.specs.Clauses.{Fails}
-use Rattle.grammar.proofs.Steps.{shorter}
+use Rattle.grammar.proofs.Steps.{shorter, growth_turn, no_growth, stopped_growth}
 use Rattle.grammar.proofs.Forms.{preceded_begins, preceded_labels, preceded_decided, listed_first, listed_fails}
 use Rattle.grammar.proofs.Loop.{goes_on, ends, fails, or_false_right}
 
@@ -53,3 +54,19 @@ module _ {L : Alphabet} {X A : Type 0} (trees : List X → List A) (s : ℕ) (g 
 
   pub list_fails : (h : Halt L.Token L.Rule) → Fails h (read (as_tree (λ xs. trees vs ++ xs) (rep (preceded (s ∷ []) g))) d us) → Fails h (read (listed (s ∷ []) g) c ts)
   list_fails h f = listed_fails s g some c ts x d us h b e (subst (λ z. Fails h (read (as_tree (λ xs. z ++ xs) (rep (preceded (s ∷ []) g))) d us)) first f)
+
+-- parts that grow on what was read; z is the tree so far
+
+module _ {L : Alphabet} {A : Type 0} (s : List ℕ) (f : A → Grammar L A) (p : (z : A) → LL1 (f z)) (z : A) (c : Bool) (ts : List L.Token) where
+  pub grow_smaller : (x : A) (d : Bool) (us : List L.Token) → begins_with L (firsts (f z)) ts ≡ true → read (f z) c ts ≡ Got x d us → length us < length ts
+  grow_smaller x d us b e = shorter L (f z) (p z) c ts x d us b e
+
+  pub grow_kept : (x : A) (d : Bool) (us : List L.Token) (all : Out L A) → begins_with L (firsts (f z)) ts ≡ true → read (f z) c ts ≡ Got x d us → read (grow z s f) c ts ≡ all → read (grow x s f) d us ≡ all
+  grow_kept x d us all b e i = sym (growth_turn L s f p z c ts x d us b e) ∙ i
+
+  pub grow_ends : (all : Out L A) → begins_with L (firsts (f z)) ts ≡ false → read (grow z s f) c ts ≡ all → all ≡ Got z (c || labels (f z)) ts
+  grow_ends all b i = sym i ∙ no_growth L s f p z c ts b
+
+  pub grow_fails : (all : Out L A) (e : Halt L.Token L.Rule) → begins_with L (firsts (f z)) ts ≡ true → Fails e (read (f z) c ts) → read (grow z s f) c ts ≡ all → Fails e all
+  grow_fails all Memory b h i = tt
+  grow_fails all (At w rest) b h i = sym i ∙ stopped_growth L s f p z c ts w rest.now b h

@@ -1,5 +1,5 @@
 -- What a function of a hand-written reader says: it answers what the grammar's own reader answers.
-use Rattle.std.specs.Prelude.{◌≡◌, ℕ, Bool, Result, Ok, Err, List}
+use Rattle.std.specs.Prelude.{◌≡◌, Result, Ok, Err, List}
 use Rattle.grammar.specs.declared.cursor.Cursor.{Cursor}
 use Rattle.grammar.specs.declared.cursor.Halt.{Halt}
 use Rattle.grammar.specs.declared.cursor.Halt.TheVariants.{Memory, At}

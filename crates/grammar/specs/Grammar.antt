@@ -1,13 +1,15 @@
 -- Grammars as data.
 use Rattle.std.specs.Prelude.{ℕ, Bool, false, ◌||◌, nat_eq, Option, Some, None, List, [], ◌∷◌}
 
--- What a grammar speaks of: tokens, each of a kind that has a number, and what is said of a token that breaks a side rule.
+-- What a grammar speaks of: the terminals, which are tokens of kinds that have numbers, and what a side rule says of a
+-- token that breaks it.
 pub record Alphabet : Type 1 where
   pub Token : Type 0
   pub Rule : Type 0
   pub kind : Token → ℕ
 
 -- A production. Each of its sentences has a tree in A.
+-- A grammar is finite: a production that contains itself is a function of the depth that is left, by recursion on it.
 pub data Grammar (L : Alphabet) : Type 0 → Type 1 where
   -- no token
   nothing : {A : Type 0} → A → Grammar L A
@@ -44,6 +46,7 @@ abbrev pub begins_with : (L : Alphabet) → List ℕ → List L.Token → Bool
 begins_with L s [] = false
 begins_with L s (t ∷ ts) = is_in L t s
 
+-- the alphabet with these tokens, rules and kinds
 abbrev pub alphabet : (T R : Type 0) → (T → ℕ) → Alphabet
 alphabet T R k = record { Token = T; Rule = R; kind = k }
 

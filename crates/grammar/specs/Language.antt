@@ -1,5 +1,5 @@
 -- What a grammar says of lists of tokens: derivations, viable prefixes and the first fault.
-use Rattle.std.specs.Prelude.{◌≡◌, ℕ, Bool, true, Option, Some, None, Result, Ok, Err, List, [], ◌∷◌, ◌++◌, length, ◌⊎◌}
+use Rattle.std.specs.Prelude.{◌≡◌, ℕ, true, Option, Some, None, Result, Ok, Err, List, [], ◌∷◌, ◌++◌, length, ◌⊎◌}
 use Rattle.grammar.specs.declared.fault.Fault.{Fault}
 use Rattle.grammar.specs.declared.fault.Fault.TheVariants.{Unexpected, Broken}
 use Rattle.grammar.specs.Grammar.{Alphabet, Grammar, nothing, tok, seq, alt, opt, rep, as_tree, dep, grow, labelled, is_in}
@@ -48,7 +48,8 @@ Derives (dep a s f) = both (Derives a) (λ x. Derives (f x))
 Derives (grow x s f) = growth (λ y. Derives (f y)) x
 Derives (labelled a) = Derives a
 
--- Viable prefixes, with what is known at their end.
+-- Viable prefixes, by cases on the productions, with what is known at their end. (Where each part has a sentence they are
+-- the beginnings of sentences.)
 -- Fine: the tokens are a viable prefix. Labelled: and a labelled part may begin after them.
 -- Breaks: all but the last are a viable prefix, and the last may follow by its kind, but breaks a side rule.
 pub data Ending (L : Alphabet) : Type 0 where
@@ -99,6 +100,8 @@ Front (grow x s f) = growth_front (λ y. Derives (f y)) (λ y. Front (f y)) x
 Front (labelled a) = λ m ts. label_front m ts ⊎ Front a m ts
 
 -- The first fault.
+-- Side rules stand in viable prefixes here: a token that breaks one ends them. To leave them aside there gives the same
+-- first fault (`Aside`). The first fault of a language with two grammars is in `Union`.
 
 -- us goes on by rest, and no sentence does: the next token is in no viable prefix, or us ends too early
 abbrev pub IsUnexpected : {L : Alphabet} {A : Type 0} → Grammar L A → List L.Token → List L.Token → Type 0

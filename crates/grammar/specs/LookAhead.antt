@@ -25,7 +25,7 @@ nullable (dep a s f) = false
 nullable (grow x s f) = true
 nullable (labelled a) = nullable a
 
--- the first set: the kinds by which a sentence may begin
+-- the first set (FIRST): the kinds by which a sentence may begin
 abbrev pub firsts : {L : Alphabet} {A : Type 0} → Grammar L A → List ℕ
 firsts (nothing a) = []
 firsts (tok s p) = s

@@ -1,7 +1,7 @@
 -- Two grammars of one language, as two ways to write the same things. Its sentences are those of either grammar, and its
 -- viable prefixes too: both are those of `alt g h`. One token of look-ahead decides in each of the two and not in `alt g h`,
 -- so each is read by itself, and the two answers are joined. Where both grammars speak at once the first one counts.
-use Rattle.std.specs.Prelude.{◌≡◌, ℕ, Bool, ◌||◌, if◌then◌else◌, nat_lt, Result, Ok, Err, List, [], ◌∷◌, ◌++◌, length, ◌⊎◌}
+use Rattle.std.specs.Prelude.{◌≡◌, ℕ, ◌||◌, if◌then◌else◌, nat_lt, Result, Ok, Err, List, [], ◌∷◌, ◌++◌, length, ◌⊎◌}
 use Rattle.grammar.specs.declared.fault.Fault.{Fault}
 use Rattle.grammar.specs.declared.fault.Fault.TheVariants.{Unexpected, Broken}
 use Rattle.grammar.specs.Grammar.{Alphabet, Grammar, alt}

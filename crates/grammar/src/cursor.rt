@@ -8,9 +8,9 @@ ghost use Rattle.grammar.specs.declared.cursor.Halt.TheVariants.{Memory};
 use crate::fault::Fault;
 use std::alloc::{AllocError, AllocFailed};
 
-/// A token of a kind.
+/// A token. Its kind tells which productions take it, and the rest of it is for trees and side rules.
 pub trait Terminal: Copy {
-    /// The kinds of tokens.
+    /// The kinds of tokens, each of which has a number in the grammar.
     type Kind: Copy;
 
     /// What is said of a token that breaks a side rule.
@@ -70,7 +70,7 @@ impl<T> Cursor<'_, T> {
 }
 
 impl<'a, T: Terminal> Cursor<'a, T> {
-    /// Whether the next token is of the kind.
+    /// Whether there is a next token and it is of the kind.
     pub fn next_is(&self, kind: T::Kind) -> bool
         ensures { result ≡ begins_with (alphabet T T.Rule T.kind) (T.code kind ∷ []) self.now.rest.now }
     {
@@ -80,7 +80,7 @@ impl<'a, T: Terminal> Cursor<'a, T> {
         }
     }
 
-    /// Takes the next token, which is to be of the kind.
+    /// Takes the next token, which is to be of the kind; any other, or none, is the fault. A fault leaves the cursor.
     pub fn take(&mut self, kind: T::Kind) -> Result<T, Halt<'a, T, T::Rule>>
         ensures { Gives {L = alphabet T T.Rule T.kind} (λ t. t) (tok (T.code kind ∷ []) any) self.old self.new result }
     {
@@ -94,7 +94,7 @@ impl<'a, T: Terminal> Cursor<'a, T> {
         }
     }
 
-    /// Refuses the next token: one of the kind breaks the side rule, and no other may stand here.
+    /// Why the next token is refused, where one of the kind breaks the side rule and no other may stand here.
     pub fn refuse(&self, kind: T::Kind, rule: T::Rule) -> Halt<'a, T, T::Rule>
         ensures reads { Fails {L = alphabet T T.Rule T.kind} result (read (tok (T.code kind ∷ []) (λ _. Some rule)) self.now.labelled self.now.rest.now) }
         ensures is_fault { (result ≡ Memory) → ⊥ }

@@ -46,7 +46,8 @@ pub trait Growth {
         ensures { Gives view (grows self.now (view item)) cursor.old cursor.new result };
 }
 
-/// Reads parts from `start` on, each asked for by what was read before.
+/// Reads parts from `start` on, each asked for by what was read before, as long as one begins. Stops at the first fault,
+/// or where memory runs out.
 pub fn grow<'a, G: Growth>(
     alloc: Global,
     growth: &G,

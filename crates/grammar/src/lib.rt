@@ -1,4 +1,25 @@
 //! Grammars as data, and readers that answer exactly what a grammar says.
+//!
+//! A grammar is a value of `Grammar` (`specs/Grammar.antt`): a production is one line that reads as in a language
+//! reference, and each sentence has a tree. `specs/Language.antt` says what a grammar means: `Derives` relates sentences
+//! to trees, `Front` tells viable prefixes, and `Misread` tells the first fault of a list of tokens and its place.
+//! `LL1` (`specs/LookAhead.antt`) is the test that one token of look-ahead decides. Under it every list of tokens has
+//! exactly one tree or exactly one first fault, and the reader `read` that the grammar gives (`specs/Reading.antt`)
+//! answers it; `laws` has the theorems.
+//!
+//! A hand-written reader by recursive descent goes along a `Cursor`. Each of its functions has one clause,
+//! `Gives view production cursor.old cursor.new result` (`specs/Clauses.antt`): it answers what `read` answers for its
+//! production. Such functions mostly need no proof of their own:
+//!
+//! - a token is taken by `Cursor::take`, a choice is an `if` on `Cursor::next_is`, and where an optional part is left out
+//!   that may begin with a labelled one, `Cursor::skip` says so;
+//! - `part::repeat`, `part::separated` and `growth::grow` are the loops; a part that contains itself needs a loop of its
+//!   own, whose goals are answered by a lemma each (`proofs/Turns.antt`);
+//! - `whole::read_all` reads all of the tokens.
+//!
+//! The tokens end as the grammar wants it, as with a token `End` that the first production takes last. A text that goes
+//! on with no token ends in a token of a kind that no production takes: the first fault is at that token, or earlier, and
+//! the caller tells by the token what to say of it.
 #![tactic(auto)]
 
 pub mod cursor;

@@ -44,7 +44,7 @@ pub trait Part {
         ensures { Gives view (grammar self.now) cursor.old cursor.new result };
 }
 
-/// Reads the part any number of times.
+/// Reads the part any number of times, as long as it begins. Stops at the first fault, or where memory runs out.
 pub fn repeat<'a, P: Part>(
     alloc: Global,
     part: &P,
@@ -70,7 +70,8 @@ pub trait Listed: Part {
         ensures { result ≡ begins_with (alphabet Self.Token Self.Rule Self.kind) (separator ∷ []) cursor.now.rest.now };
 }
 
-/// Reads nothing, or the part any number of times with separators between.
+/// Reads nothing, or the part any number of times with a separator between two. Stops at the first fault, or where memory
+/// runs out.
 pub fn separated<'a, P: Listed>(
     alloc: Global,
     part: &P,

@@ -1,4 +1,4 @@
-use Rattle.std.proofs.Common.{[], ◌∷◌, true, map, sym, ◌∙◌}
+use Rattle.std.proofs.Common.{[], ◌∷◌, map, sym, ◌∙◌}
 use Rattle.std.proofs.lemmas.List.{map-append}
 use Rattle.grammar.proofs.Turns.{repeat_smaller, repeat_kept}
 use Rattle.grammar.proofs.part.repeat.Goals as goal

@@ -1,6 +1,6 @@
-use Rattle.std.proofs.Common.{◌≡◌, [], ◌∷◌, ◌++◌, ◌||◌, map, true, false, refl, sym, ap, ◌∙◌, subst}
+use Rattle.std.proofs.Common.{◌≡◌, [], ◌∷◌, ◌++◌, map, sym, ap, ◌∙◌, subst}
 use Rattle.std.proofs.lemmas.Result.{err_from_is_err_and}
-use Rattle.grammar.specs.Grammar.{as_tree, rep, preceded, listed}
+use Rattle.grammar.specs.Grammar.{as_tree, rep, preceded}
 use Rattle.grammar.specs.Reading.{read}
 use Rattle.grammar.specs.Clauses.{Fails}
 use Rattle.grammar.proofs.Forms.{listed_none, listed_first, listed_stops, listed_fails}

@@ -1,4 +1,4 @@
-use Rattle.std.proofs.Common.{◌≡◌, [], refl, sym, ◌∙◌}
+use Rattle.std.proofs.Common.{sym, ◌∙◌}
 use Rattle.grammar.proofs.Top.{all_holds, more_holds, got_short, no_length, some_length}
 use Rattle.grammar.proofs.whole.read_all.Goals as goal
 

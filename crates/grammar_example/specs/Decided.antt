@@ -1,11 +1,9 @@
 -- One token of look-ahead decides in the grammar.
-use Rattle.std.specs.Prelude.{nat_eq}
-use Rattle.std.proofs.Common.{◌≡◌, ℕ, zero, suc, length, false, true, List, [], ◌∷◌, ◌+◌, refl, sym, ap, ◌∙◌, arith, rules, Bool}
-use Rattle.grammar.specs.Grammar.{Grammar, as_tree, seq, opt, listed, preceded, begins_with}
+use Rattle.std.proofs.Common.{◌≡◌, ℕ, zero, suc, false, true, List, [], ◌∷◌, ◌+◌, refl, sym, ap, ◌∙◌, arith, rules, Bool}
+use Rattle.grammar.specs.Grammar.{Grammar, opt, listed, preceded, begins_with}
 use Rattle.grammar.specs.LookAhead.{LL1, firsts, extensions, nullable, labels, apart, within}
 use Rattle.grammar_example.specs.declared.token.Token.{Token}
 use Rattle.grammar_example.specs.declared.tree.ValueType.{ValueType}
-use Rattle.grammar_example.specs.declared.tree.Value.{Value}
 use Rattle.grammar_example.specs.declared.tree.Base.{Base}
 use Rattle.grammar_example.specs.declared.tree.Base.TheVariants as base
 use Rattle.grammar_example.specs.Example.{tokens, name, star, base_of, stars_of, members, tuple_at, base_at, type_at, truth, number, value_at, value_of, set_at, set, constant, result_of, function, item_of, program, no_program}

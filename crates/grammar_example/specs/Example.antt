@@ -1,6 +1,6 @@
 -- The grammar.
-use Rattle.std.specs.Prelude.{ℕ, zero, suc, length, ◌+◌, Bool, true, false, if◌then◌else◌, nat_eq, nat_lt, Option, Some, None, List, [], ◌∷◌, map, Vec}
-use Rattle.grammar.specs.Grammar.{Alphabet, Grammar, alphabet, nothing, tok, seq, alt, opt, rep, as_tree, dep, grow, grown, labelled, any, second, listed}
+use Rattle.std.specs.Prelude.{ℕ, zero, suc, length, ◌+◌, Bool, true, false, if◌then◌else◌, nat_eq, nat_lt, Option, Some, None, List, [], ◌∷◌}
+use Rattle.grammar.specs.Grammar.{Alphabet, Grammar, alphabet, nothing, tok, seq, alt, opt, rep, as_tree, dep, grown, labelled, any, second, listed}
 use Rattle.grammar_example.specs.declared.token.Kind.{Kind}
 use Rattle.grammar_example.specs.declared.token.Kind.TheVariants as kind
 use Rattle.grammar_example.specs.declared.token.Token.{Token}

@@ -1,9 +1,9 @@
-use Rattle.std.proofs.Common.{[], ◌∷◌, ◌++◌, ◌+◌, ◌-◌, ◌||◌, true, false, refl, ap, ◌∙◌, arith}
+use Rattle.std.proofs.Common.{[], ◌∷◌, ◌++◌, ◌-◌, ◌||◌, true, false, refl, ap, ◌∙◌, arith}
 use Rattle.std.proofs.lemmas.Result.{err_from_is_err_and}
 use Rattle.grammar.specs.Reading.{Got}
 use Rattle.grammar.proofs.Forms.{listed_none, listed_stops}
 use Rattle.grammar.proofs.Turns.{more_smaller, more_kept, more_ends, more_fails, list_read, list_fails}
-use Rattle.grammar_example.specs.Example.{type_at, tuple_at, members}
+use Rattle.grammar_example.specs.Example.{type_at}
 use Rattle.grammar_example.specs.Decided.{type_decided, type_begins, type_labels, tuple_within}
 use Rattle.grammar_example.proofs.reader.+types.Goals as goal
 

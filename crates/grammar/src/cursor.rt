@@ -1,5 +1,5 @@
 //! A place in a list of tokens, and what reading gives up with.
-ghost use Rattle.std.specs.Prelude.{◌≡◌, ℕ, Bool, nat_eq, Some, ◌||◌, [], ◌∷◌};
+ghost use Rattle.std.specs.Prelude.{◌≡◌, ℕ, Bool, nat_eq, Some, Err, ◌||◌, [], ◌∷◌};
 ghost use Rattle.grammar.specs.Grammar.{alphabet, tok, any, begins_with};
 ghost use Rattle.grammar.specs.Clauses.{Gives, Fails};
 ghost use Rattle.grammar.specs.Reading.{read};
@@ -82,7 +82,9 @@ impl<'a, T: Terminal> Cursor<'a, T> {
 
     /// Takes the next token, which is to be of the kind; any other, or none, is the fault. A fault leaves the cursor.
     pub fn take(&mut self, kind: T::Kind) -> Result<T, Halt<'a, T, T::Rule>>
-        ensures { Gives {L = alphabet T T.Rule T.kind} (λ t. t) (tok (T.code kind ∷ []) any) self.old self.new result }
+        ensures gives { Gives {L = alphabet T T.Rule T.kind} (λ t. t) (tok (T.code kind ∷ []) any) self.old self.new result }
+        ensures needs_no_memory { (result ≡ Err Memory) → ⊥ }
+        ensures stays { (e : _) → result ≡ Err e → self.new ≡ self.old }
     {
         match self.rest {
             [token, rest @ ..] if token.is(kind) => {
@@ -97,7 +99,7 @@ impl<'a, T: Terminal> Cursor<'a, T> {
     /// Why the next token is refused, where one of the kind breaks the side rule and no other may stand here.
     pub fn refuse(&self, kind: T::Kind, rule: T::Rule) -> Halt<'a, T, T::Rule>
         ensures reads { Fails {L = alphabet T T.Rule T.kind} result (read (tok (T.code kind ∷ []) (λ _. Some rule)) self.now.labelled self.now.rest.now) }
-        ensures is_fault { (result ≡ Memory) → ⊥ }
+        ensures needs_no_memory { (result ≡ Memory) → ⊥ }
     {
         if self.next_is(kind) {
             return Halt::At(Fault::Broken(rule), self.rest);

@@ -8,6 +8,10 @@ use crate::cursor::{Cursor, Halt};
 use std::alloc::Global;
 
 /// A part that grows on what was read: what may come next is asked for by the tree so far, and gives the next one.
+///
+/// An impl gives: `kind`, the number of a token's kind; `Tree`, what a sentence stands for; `grows`, what may come after a
+/// tree; `view`, the tree of what was made; `extensions`, the kinds by which it may go on, as the grammar has them;
+/// `decided`, that one token of look-ahead decides in what may come.
 pub trait Growth {
     /// The tokens of the grammar.
     type Token;

@@ -7,6 +7,9 @@ ghost use Rattle.grammar.specs.Aside.{SameFault};
 ghost use Rattle.grammar.specs.Union.{JoinHolds};
 
 /// A language with a grammar in which one token of look-ahead decides.
+///
+/// An impl gives: `kind`, the number of a token's kind; `Tree`, what a sentence stands for; `grammar`; and `decided`, that
+/// one token of look-ahead decides in it.
 pub trait Language {
     /// The tokens.
     type Token;
@@ -47,7 +50,7 @@ pub fn same_fault<G: Language>()
     ensures { SameFault G.grammar }
 {}
 
-/// A language with two grammars, in each of which one token of look-ahead decides.
+/// A language with two grammars, in each of which one token of look-ahead decides: the members are those of `Language`.
 pub trait TwoGrammars {
     /// The tokens.
     type Token;

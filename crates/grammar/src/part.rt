@@ -9,6 +9,10 @@ use crate::fault::Fault;
 use std::alloc::Global;
 
 /// A part of a grammar that is read any number of times, and the function that reads it.
+///
+/// An impl gives: `kind`, the number of a token's kind; `Tree`, what a sentence stands for; `grammar`, the part itself,
+/// which may go by the value; `view`, the tree of what was made; `decided`, that one token of look-ahead decides in it and
+/// that it is never empty, as it has to be where it is optional.
 pub trait Part {
     /// The tokens of the grammar.
     type Token;
@@ -61,7 +65,7 @@ pub fn repeat<'a, P: Part>(
     Ok(items)
 }
 
-/// A part that is read any number of times with a separator between two.
+/// A part that is read any number of times with a separator between two. An impl gives the number of the separator's kind.
 pub trait Listed: Part {
     ghost separator: { ℕ };
 

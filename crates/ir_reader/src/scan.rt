@@ -88,8 +88,9 @@ pub(crate) fn name(alloc: Global, text: &[u8]) -> Result<(Bytes, &[u8]), Stop>
     Ok((name, rest))
 }
 
-/// The number below 2^64 that the digits spell, without a leading zero.
-fn value(word: &[u8]) -> Option<u64>
+/// The number below 2^64 whose decimal digits the word is, without a sign and without a leading zero
+/// before another digit. None exactly where there is no such number. It takes no memory.
+pub fn plain_number(word: &[u8]) -> Option<u64>
     ensures sound { IfSome result (λ n. word.now ≡ decimal n) }
     ensures complete { (n : ℕ) → n < 2 ^ 64 → word.now ≡ decimal n → result ≡ Some n }
 {
@@ -111,6 +112,6 @@ pub(crate) fn number(text: &[u8]) -> Option<(u64, &[u8])>
     ensures complete { (n : ℕ) (rest : List ℕ) → n < 2 ^ 64 → is_past is_digit rest ≡ true → text.now ≡ decimal n ++ rest → IsSomeAnd result (λ r. (r.0 ≡ n) × (r.1.now ≡ rest)) }
 {
     let (word, rest) = text.split_at(digits(text));
-    let n = value(word)?;
+    let n = plain_number(word)?;
     Some((n, rest))
 }

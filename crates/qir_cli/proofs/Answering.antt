@@ -1,21 +1,18 @@
 -- The answer of `lower base` from what the reader and the lowering said.
-use Rattle.std.proofs.Common.{◌≡◌, ◌∙◌, ℕ, ◌+◌, ◌<◌, ◌≤◌, List, length, refl, ap, sym, subst, arith}
+use Rattle.std.proofs.Common.{◌≡◌, ◌∙◌, ℕ, ◌+◌, ◌≤◌, List, length, refl, ap, sym, subst}
 use Rattle.std.specs.Prelude.{codes, decimal, Result, Ok, Err, IfOk}
 use Rattle.std.specs.Fmt.{digits}
 use Rattle.ir_module.specs.declared.places.Place.{Place}
-use Rattle.ir_module.specs.declared.tree.Module.{Module}
 use Rattle.ir_reader.specs.declared.parsed.Parsed.{Parsed}
 use Rattle.ir_reader.specs.declared.parsed.ReadCode.{ReadCode}
 use Rattle.ir_reader.specs.declared.parsed.ReadStop.TheVariants as stop
 use Rattle.ir_reader.specs.First.{First}
-use Rattle.ir_reader.specs.FirstText.{Program, IsProgram}
-use Rattle.ir_reader.specs.FirstTree.{tree_of}
-use Rattle.ir_reader.specs.Parses.{Parses, IsTreeOf, IsRightly}
+use Rattle.ir_reader.specs.Parses.{Parses, IsRightly}
 use Rattle.ir_values.specs.declared.memory.Memory.{Memory}
 use Rattle.qir_meaning.specs.Same.{SameBehaviour}
 use Rattle.qir_cli.specs.declared.reply.Reply.{Reply}
 use Rattle.qir_cli.specs.declared.status.Status.{Status}
-use Rattle.qir_cli.specs.declared.status.Status.TheVariants.{Done, Refused}
+use Rattle.qir_cli.specs.declared.status.Status.TheVariants.{Refused}
 use Rattle.qir_cli.specs.Answers.{limit, instructions, refusal_line, other_text_line, LowerAnswer, other_text, over_budget, lowered}
 use Rattle.qir_cli.specs.BaseTree.{base_tree, naming_of}
 use Rattle.qir_cli.specs.Budget.{FitsBudget, within, over}

@@ -1,14 +1,13 @@
 -- One more call: what is written, and which functions are called.
-use Rattle.std.proofs.Common.{◌≡◌, ◌∙◌, ℕ, Bool, true, false, not, if◌then◌else◌, List, [], ◌∷◌, ◌++◌, refl, ap, sym, map, append_assoc, append-nil}
+use Rattle.std.proofs.Common.{◌≡◌, ◌∙◌, ℕ, Bool, true, false, not, if◌then◌else◌, List, [], ◌∷◌, ◌++◌, refl, ap, sym, map, append-nil}
 use Rattle.std.specs.Prelude.{◌==◌, nat_eq}
 use Rattle.std.specs.List.{flat_map, list_any}
-use Rattle.std.specs.Bool.{Decides}
 use Rattle.std.specs.Cmp.{unsigned_Decides}
 use Rattle.std.proofs.lemmas.Grind.{flat_map-append}
 use Rattle.std.proofs.lemmas.List.{map-append}
 use Rattle.ir_values.specs.Equal.{same_test}
 use Rattle.qir_cli.specs.declared.base_lowering.Lowered.{Lowered}
-use Rattle.qir_cli.specs.BaseCode.{Wrote, gates_text, declares_text, gate_text, declare_text}
+use Rattle.qir_cli.specs.BaseCode.{Wrote, gates_text, gate_text, declare_text}
 use Rattle.qir_cli.specs.BaseGates.{GateCall, is_called, first_calls}
 
 eq-sym : (m n : ℕ) → (m == n) ≡ (n == m)

@@ -1,21 +1,13 @@
 -- The number that plain digits write.
-use Rattle.std.proofs.Common.{◌≡◌, ℕ, ◌<◌, ◌≤◌, ◌^◌, Bool, true, ◌&&◌, List, ◌∙◌, refl, ap, subst, sym, arith, if◌then◌else◌}
-use Rattle.std.specs.Prelude.{decimal, nat_le, Option, None, Some, Result, Ok}
+use Rattle.std.proofs.Common.{◌≡◌, ℕ, ◌<◌, ◌≤◌, ◌^◌, Bool, true, ◌&&◌, List, ◌∙◌, refl, ap, sym, arith, if◌then◌else◌}
+use Rattle.std.specs.Prelude.{decimal, nat_le, None, Some}
 use Rattle.std.specs.Cmp.{unsigned_Decides}
 use Rattle.std.specs.Cmp.Lexicographic.{pointwise_decides}
-use Rattle.std.specs.Str.{IsUtf8}
-use Rattle.std.specs.Str.Parse.{ParsesUnsigned, digits_value}
-use Rattle.std.proofs.lemmas.Fmt.{IsAscii-decimal, parse-decimal, digits_value-decimal}
-use Rattle.std.proofs.lemmas.Str.{IsUtf8-from_ascii}
+use Rattle.std.specs.Str.Parse.{digits_value}
+use Rattle.std.proofs.lemmas.Fmt.{digits_value-decimal}
 use Rattle.std.proofs.lemmas.Str.Parse.{numerals_by_value, tells_digits}
 use Rattle.ir_values.specs.Calls.{same_text}
 use Rattle.qir_cli.specs.Commands.{number_word}
-
-pub IsUtf8-plain : (bs : List ℕ) (n : ℕ) → n < 2 ^ 64 → bs ≡ decimal n → IsUtf8 bs
-IsUtf8-plain bs n small e = subst IsUtf8 (sym e) (IsUtf8-from_ascii (decimal n) (IsAscii-decimal n small))
-
-pub parsed-plain : {E : Type 0} (bs cs : List ℕ) (n : ℕ) (r : Result ℕ E) → ParsesUnsigned 64 10 cs r → n < 2 ^ 64 → bs ≡ decimal n → cs ≡ bs → r ≡ Ok n
-parsed-plain bs cs n r parses small e same = parse-decimal 64 n cs r small small (same ∙ e) parses
 
 pub digits_value-plain : (n : ℕ) → n < 2 ^ 64 → digits_value 10 (decimal n) ≡ n
 digits_value-plain n small = digits_value-decimal (numerals_by_value _ tells_digits) n small

@@ -1,17 +1,15 @@
 -- Facts of the trees of programs of one block.
 use Rattle.std.proofs.Common.{◌≡◌, ◌∙◌, ℕ, zero, suc, ◌+◌, ◌<◌, ◌≤◌, ◌^◌, Bool, true, false, List, [], ◌∷◌, ◌++◌, length, refl, ap, sym, subst, arith, if◌then◌else◌}
-use Rattle.std.specs.Prelude.{◌==◌, Option, Some, codes, decimal}
+use Rattle.std.specs.Prelude.{◌==◌, Some, codes, decimal}
 use Rattle.std.specs.Cmp.{unsigned_Decides}
 use Rattle.ir_module.specs.declared.places.Place.{Place}
 use Rattle.ir_module.specs.declared.places.Spot.{Spot}
 use Rattle.ir_module.specs.declared.places.Spot.TheVariants as spot
-use Rattle.ir_module.specs.declared.tree.Module.{Module}
 use Rattle.ir_module.specs.Places.{place_of}
 use Rattle.ir_reader.specs.declared.line.Line.{Line}
 use Rattle.ir_reader.specs.declared.parsed.Parsed.{Parsed}
 use Rattle.ir_reader.specs.FirstText.{Program, IsProgram, Scope, after_line}
 use Rattle.ir_reader.specs.FirstTree.{tree_of, places_of, insts_of, inst_places, declaration_places, name_columns, point, place}
-use Rattle.ir_reader.specs.Parses.{IsTreeOf}
 use Rattle.qir_cli.specs.Answers.{instructions, refusal_line, budget_line}
 use Rattle.qir_cli.specs.BaseCode.{RequiresPlainly}
 use Rattle.qir_cli.specs.Budget.{IsParsed}

@@ -1,10 +1,10 @@
 -- What was read and written, from the calls that read and write.
-use Rattle.std.proofs.Common.{◌≡◌, ◌∙◌, ℕ, ◌+◌, ◌<◌, ◌≤◌, List, [], ◌++◌, length, take, drop, refl, ap, sym, subst, arith, replicate}
+use Rattle.std.proofs.Common.{◌≡◌, ◌∙◌, ℕ, ◌+◌, ◌<◌, List, [], ◌++◌, length, take, refl, ap, sym, subst, arith, replicate}
 use Rattle.std.specs.Prelude.{Option, None, Some, Result, Ok, Err, IfOk, IfSome}
 use Rattle.std.specs.Option.{option_map}
 use Rattle.std.proofs.lemmas.List.{take-append-drop, length-replicate, length-take}
 use Rattle.ir_values.specs.declared.memory.Memory.{Memory as NoMemory}
-use Rattle.qir_ports.specs.Known.{Rose, Gives, GivesTooMany, GivesUpTo}
+use Rattle.qir_ports.specs.Known.{GivesTooMany, GivesUpTo}
 use Rattle.qir_cli.specs.declared.command.Command.{Command}
 use Rattle.qir_cli.specs.declared.command.Command.TheVariants.{LowerBase}
 use Rattle.qir_cli.specs.declared.reply.Reply.{Reply}

@@ -1,6 +1,6 @@
 -- The lowered text from its parts.
 use Rattle.std.proofs.Common.{◌≡◌, ◌∙◌, ℕ, ◌+◌, List, [], ◌∷◌, ◌++◌, refl, ap, sym, subst, map, length, append_assoc}
-use Rattle.std.specs.Prelude.{Option, Some}
+use Rattle.std.specs.Prelude.{Some}
 use Rattle.std.specs.List.{flat_map}
 use Rattle.std.proofs.lemmas.Grind.{flat_map-append}
 use Rattle.ir_module.specs.declared.tree.Function.{Function}
@@ -10,7 +10,7 @@ use Rattle.ir_reader.specs.FirstText.{lines_text}
 use Rattle.qir_cli.specs.declared.base_lowering.Lowered.{Lowered}
 use Rattle.qir_cli.specs.BaseCode.{Wrote, gates_text, declares_text, gate_text, declare_text}
 use Rattle.qir_cli.specs.BaseGates.{GateCall, main_of, gates_of, used_gates, own_qubits, allocations, locals_of_main, block_insts, gate_of}
-use Rattle.qir_cli.specs.BaseText.{base_text, base_lines, text_of_main, type_lines, define_line, entry_lines, gate_line, end_lines, declare_line, attributes_line, flag_lines}
+use Rattle.qir_cli.specs.BaseText.{base_text, text_of_main, type_lines, define_line, entry_lines, gate_line, end_lines, declare_line, attributes_line, flag_lines}
 
 lines-split : (a b c e g i : List (List ℕ)) (d h : List ℕ)
     → lines_text (a ++ d ∷ b ++ c ++ e ++ g ++ h ∷ i)

@@ -7,7 +7,7 @@ use Rattle.ir_values.specs.declared.ty.Ty.{Ty}
 use Rattle.qir_cli.specs.declared.base_lowering.Gate.{Gate}
 use Rattle.qir_cli.specs.declared.base_lowering.Lowered.{Lowered}
 use Rattle.qir_cli.specs.BaseGates.{GateCall, own_qubits, qubit_number, first_calls, required_qubits_text}
-use Rattle.qir_cli.specs.BaseText.{gate_line, declare_line, handle_text, listed}
+use Rattle.qir_cli.specs.BaseText.{gate_line, declare_line, handle_text}
 
 -- a call as the specification sees it, with k own qubits
 abbrev pub call_of : ℕ → Gate → GateCall

@@ -1,5 +1,5 @@
 -- How a parsed text of one block is answered.
-use Rattle.std.specs.Prelude.{◌≡◌, ℕ, ◌+◌, ◌<◌, ◌≤◌, List}
+use Rattle.std.specs.Prelude.{ℕ, ◌+◌, ◌<◌, ◌≤◌, List}
 use Rattle.ir_module.specs.declared.tree.Module.{Module}
 use Rattle.ir_reader.specs.declared.parsed.Parsed.{Parsed}
 use Rattle.ir_reader.specs.FirstText.{Program, IsProgram}

@@ -8,9 +8,10 @@ ghost use Rattle.qir_cli.specs.BaseGates as spec;
 ghost use Rattle.qir_cli.specs.BaseGates.{GateCall};
 ghost use Rattle.qir_cli.specs.BaseText as spec_text;
 
-use crate::text::{plain_number, push_number};
+use crate::text::push_number;
 use indexmap::IndexSet;
 use ir_module::{Attr, Callee, Function, Inst, InstKind, Module, Operand};
+use ir_reader::plain_number;
 use ir_values::{Bytes, Memory, Name, Ty, Value};
 use std::alloc::Global;
 

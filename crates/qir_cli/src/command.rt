@@ -2,7 +2,7 @@
 ghost use Rattle.std.specs.Prelude.{◌≡◌};
 ghost use Rattle.qir_cli.specs.Commands as spec;
 
-use crate::text::plain_number;
+use ir_reader::plain_number;
 
 /// A command.
 #[derive(Clone, Copy, Debug, PartialEq, Eq)]

@@ -5,10 +5,9 @@ ghost use Rattle.qir_cli.specs.Answers.{limit};
 ghost use Rattle.qir_cli.specs.Commands.{command_of, texts_of};
 ghost use Rattle.qir_cli.specs.Outcomes.{Answered, PartlyAnswered, Sends, IsAnswered, IsUnwritten};
 
-use crate::command;
-use crate::reply;
 use crate::reply::Reply;
 use crate::status::Status;
+use crate::{command, reply};
 use ir_values::Memory;
 use qir_ports::{ReadError, Sink, Source, read_all, write_all};
 use std::alloc::Global;

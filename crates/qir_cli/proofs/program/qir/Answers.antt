@@ -9,7 +9,7 @@ use Rattle.qir_cli.proofs.program.qir.Goals as goal
 -- the text was read to its end
 whole_text : (g : Given.Over) (c : goal.After-drop-text-inside g)
     → Sent (texts_of c.args.words.now.items) (g.S.Source.left c.args.input.now) (g.K.Sink.taken c.args.out.now) (g.K.Sink.taken c.send.new.out)
-        (c.send.new.out ≡ c.args.out.now) c.send.result
+    (c.send.new.out ≡ c.args.out.now) c.send.result
 whole_text g c =
     let words = texts_of c.args.words.now.items in
     let is : command_of words ≡ Some c.in-Some.command = ap (λ ws. command_of (texts_of ws)) (sym c.as_slice.ensures.value) ∙ sym c.in-Some.ensures in
@@ -21,7 +21,7 @@ whole_text g c =
 -- it is too long
 long_text : (g : Given.Over) (c : goal.After-send-in-Err-TooLong g)
     → Sent (texts_of c.args.words.now.items) (g.S.Source.left c.args.input.now) (g.K.Sink.taken c.args.out.now) (g.K.Sink.taken c.send-in-Err-TooLong.new.out)
-        (c.send-in-Err-TooLong.new.out ≡ c.args.out.now) c.send-in-Err-TooLong.result
+    (c.send-in-Err-TooLong.new.out ≡ c.args.out.now) c.send-in-Err-TooLong.result
 long_text g c =
     let words = texts_of c.args.words.now.items in
     let is : command_of words ≡ Some c.in-Some.command = ap (λ ws. command_of (texts_of ws)) (sym c.as_slice.ensures.value) ∙ sym c.in-Some.ensures in

@@ -1,7 +1,3 @@
-use Rattle.std.proofs.Common.{◌≡◌, ◌∙◌, ap, sym, subst, arith}
-use Rattle.std.specs.Prelude.{codes, decimal}
-use Rattle.std.specs.Fmt.{digits}
-use Rattle.qir_cli.specs.Answers as spec
 use Rattle.qir_cli.proofs.Answering.{answered-parsed, answered-refused}
 use Rattle.qir_cli.proofs.reply.lower_base.Goals as goal
 

@@ -1,13 +1,11 @@
 use Rattle.std.proofs.Common.{◌≡◌, ◌∙◌, ◌+◌, ◌<◌, ◌≤◌, refl, ap, sym, subst, arith, length}
 use Rattle.std.specs.Prelude.{Some, IsSome}
-use Rattle.ir_module.specs.declared.places.Spot.TheVariants as spot
-use Rattle.ir_module.specs.Places.{place_of}
-use Rattle.ir_reader.specs.FirstTree.{point, place}
+use Rattle.ir_reader.specs.FirstTree.{place}
 use Rattle.qir_cli.specs.BaseCode.{RequiresPlainly}
-use Rattle.qir_cli.specs.Answers.{instructions, budget_line, refusal_line}
+use Rattle.qir_cli.specs.Answers.{instructions}
 use Rattle.qir_cli.specs.Budget.{FitsBudget, within, over}
 use Rattle.qir_cli.specs.declared.status.Status.TheVariants as status
-use Rattle.qir_cli.proofs.Programs.{RequiresPlainly-tree_of, instructions-tree_of, place_of-places_of, place-parsed, line-at}
+use Rattle.qir_cli.proofs.Programs.{RequiresPlainly-tree_of, place-parsed, line-at}
 use Rattle.qir_cli.proofs.reply.lower_parsed.Goals as goal
 
 pub lowered_text-requires : goal.lowered_text-requires

@@ -3,7 +3,7 @@ use Rattle.std.specs.Prelude.{decimal}
 use Rattle.std.proofs.lemmas.Fmt.{parse-decimal, IsAscii-decimal}
 use Rattle.std.proofs.lemmas.Str.{IsUtf8-from_ascii}
 use Rattle.ir_reader.proofs.Heads.{other_from_not}
-use Rattle.ir_reader.proofs.scan.value.Goals as goal
+use Rattle.ir_reader.proofs.scan.plain_number.Goals as goal
 
 pub returns-in_default-clause-complete : goal.returns-in_default-clause-complete
 returns-in_default-clause-complete c = λ n h e. absurd (c.in_default.ensures.cases.0 (rw e (IsUtf8-from_ascii (decimal n) (IsAscii-decimal n h))))

@@ -3,6 +3,7 @@ ghost use Rattle.std.specs.Prelude.{◌≡◌, ◌+◌, ◌-◌, ◌*◌, ◌<�
 ghost use Rattle.std.proofs.Common.{rules};
 ghost use Rattle.ir_values.specs.Width.{bits_of};
 ghost use Rattle.ir_values.specs.Int.{IntValue, signed};
+ghost use Rattle.ir_values.specs.Arithmetic as spec;
 
 use crate::data::{Copies, Exact};
 use crate::memory::Memory;
@@ -133,6 +134,16 @@ impl Int {
         ensures fits { result < 2 ^ bits_of self.now.width }
     {
         self.bits
+    }
+}
+
+impl Int {
+    /// The integer of this width that is `value` modulo 2 to the width.
+    pub(crate) fn modulo(width: Width, value: i128) -> Int
+        ensures { result ≡ spec.modulo width value }
+    {
+        let bits = value.rem_euclid(i128::from(width.mask()) + 1) as u64;
+        Int { width, bits }
     }
 }
 

@@ -2,6 +2,7 @@
 //! and the lists and bytes that hold them.
 #![tactic(auto)]
 
+mod conversion;
 mod data;
 mod int;
 mod memory;
@@ -12,6 +13,7 @@ mod token;
 mod ty;
 mod value;
 
+pub use conversion::{compare, convert};
 pub use data::{Copies, Exact};
 pub use int::{BinOp, Conv, Flags, Int, Pred, Width};
 pub use memory::Memory;

@@ -2,6 +2,7 @@
 //! and the lists and bytes that hold them.
 #![tactic(auto)]
 
+mod call_table;
 mod conversion;
 mod data;
 mod int;
@@ -13,6 +14,7 @@ mod token;
 mod ty;
 mod value;
 
+pub use call_table::call_class;
 pub use conversion::{compare, convert};
 pub use data::{Copies, Exact};
 pub use int::{BinOp, Conv, Flags, Int, Pred, Width};

@@ -25,6 +25,19 @@ pub fn compare(p: Pred, a: Int, b: Int) -> bool
     }
 }
 
+impl Conv {
+    /// Whether it leads from one width to another: `ZExt` and `SExt` to a wider one, `Trunc` to a
+    /// narrower one.
+    pub fn leads(self, from: Width, to: Width) -> bool
+        ensures { result ≡ spec.converts self from to }
+    {
+        match self {
+            Conv::ZExt | Conv::SExt => from.bits() < to.bits(),
+            Conv::Trunc => to.bits() < from.bits(),
+        }
+    }
+}
+
 /// The integer converted to the width `to`, which is wider than its own for `ZExt` and `SExt` and
 /// narrower for `Trunc`: `ZExt` keeps the unsigned value, `SExt` the signed value, and `Trunc` the
 /// value modulo 2 to the new width (LLVM Language Reference, 'Conversion Operations'). It takes no

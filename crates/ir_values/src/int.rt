@@ -1,6 +1,7 @@
 //! Integers of a width.
 ghost use Rattle.std.specs.Prelude.{◌≡◌, ◌+◌, ◌-◌, ◌*◌, ◌<◌, ◌≤◌, ◌^◌, ◌↔◌, IsNone, IfSome};
 ghost use Rattle.std.proofs.Common.{rules};
+ghost use Rattle.std.specs.Int.RustNames.{unsigned_abs};
 ghost use Rattle.ir_values.specs.Width.{bits_of};
 ghost use Rattle.ir_values.specs.Int.{IntValue, signed};
 ghost use Rattle.ir_values.specs.Arithmetic as spec;
@@ -138,6 +139,22 @@ impl Int {
 }
 
 impl Int {
+    /// Its value as an unsigned number.
+    pub(crate) fn unsigned_value(&self) -> i128
+        ensures value { result ≡ spec.unsigned self.now }
+        ensures range { unsigned_abs result < 2 ^ 64 }
+    {
+        i128::from(self.bits)
+    }
+
+    /// Its value in two's complement.
+    pub(crate) fn signed_value(&self) -> i128
+        ensures value { result ≡ signed self.now }
+        ensures range { unsigned_abs result ≤ 2 ^ 63 }
+    {
+        i128::from(self.signed())
+    }
+
     /// The integer of this width that is `value` modulo 2 to the width.
     pub(crate) fn modulo(width: Width, value: i128) -> Int
         ensures { result ≡ spec.modulo width value }

@@ -32,4 +32,8 @@ pub use value::{BlockId, Cause, Class, FuncId, GlobalId, LocalId, Name, Value};
 pub type Bytes = Seq<u8>;
 
 #[cfg(test)]
+mod call_tests;
+#[cfg(test)]
+mod integer_tests;
+#[cfg(test)]
 mod tests;

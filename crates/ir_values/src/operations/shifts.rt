@@ -15,7 +15,7 @@ use crate::value::Cause;
 pub(super) fn shl(flags: Flags, a: Int, b: Int) -> Result<Int, Cause>
     ensures { result ≡ spec.binary_of op.Shl flags a b }
 {
-    if b.bits() >= u64::from(a.width().bits()) {
+    if u64::from(a.width().bits()) <= b.bits() {
         return Err(Cause::Poison);
     }
     multiplied(flags, a, b)

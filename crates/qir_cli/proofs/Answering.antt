@@ -6,14 +6,14 @@ use Rattle.ir_module.specs.declared.places.Place.{Place}
 use Rattle.ir_reader.specs.declared.parsed.Parsed.{Parsed}
 use Rattle.ir_reader.specs.declared.parsed.ReadCode.{ReadCode}
 use Rattle.ir_reader.specs.declared.parsed.ReadStop.TheVariants as stop
-use Rattle.ir_reader.specs.First.{First}
-use Rattle.ir_reader.specs.Parses.{Parses, IsRightly}
+use Rattle.ir_reader.specs.FirstText.{Program, IsProgram, text_of}
+use Rattle.ir_reader.specs.Parses.{Parses, IsTreeOf, IsRightly}
 use Rattle.ir_values.specs.declared.memory.Memory.{Memory}
 use Rattle.qir_meaning.specs.Same.{SameBehaviour}
 use Rattle.qir_cli.specs.declared.reply.Reply.{Reply}
 use Rattle.qir_cli.specs.declared.status.Status.{Status}
 use Rattle.qir_cli.specs.declared.status.Status.TheVariants.{Refused}
-use Rattle.qir_cli.specs.Answers.{limit, instructions, refusal_line, other_text_line, LowerAnswer, other_text, over_budget, lowered}
+use Rattle.qir_cli.specs.Answers.{limit, instructions, refusal_line, other_text_line, ReadsAs, LowerAnswer, other_text, over_budget, lowered}
 use Rattle.qir_cli.specs.BaseTree.{base_tree, naming_of}
 use Rattle.qir_cli.specs.Budget.{FitsBudget, within, over}
 use Rattle.qir_cli.proofs.BaseBehaviour.{base_tree-SameBehaviour}
@@ -26,18 +26,23 @@ same bytes parsed is budget few =
     let lines : length is.program.lines + 1 ≤ budget = subst (λ n. n ≤ budget) (ap instructions is.tree.tree ∙ instructions-tree_of is.program) few in
     subst (λ m. SameBehaviour m (base_tree m) (naming_of m) budget) (sym is.tree.tree) (base_tree-SameBehaviour is.program is.is_program budget lines)
 
-first : (bytes : List ℕ) (parsed : Parsed) → Parses bytes parsed → First parsed.module bytes
-first bytes parsed is = record { program = is.program; is_program = is.is_program; spelled = is.spelled; tree = is.tree.tree }
+reads-as : (bytes : List ℕ) (parsed : Parsed) → Parses bytes parsed → ((p : Program) → IsProgram p → bytes ≡ text_of p → IsTreeOf p parsed) → ReadsAs parsed.module bytes
+reads-as bytes parsed is complete = record {
+  first = record { program = is.program; is_program = is.is_program; spelled = is.spelled; tree = is.tree.tree };
+  only = λ other f. f.tree ∙ sym (complete f.program f.is_program f.spelled).tree;
+}
 
-answer-of : (budget : ℕ) (bytes : List ℕ) (parsed : Parsed) → length bytes ≤ limit → Parses bytes parsed → (s : Status) (text : List ℕ)
+answer-of : (budget : ℕ) (bytes : List ℕ) (parsed : Parsed) → length bytes ≤ limit → Parses bytes parsed
+    → ((p : Program) → IsProgram p → bytes ≡ text_of p → IsTreeOf p parsed) → (s : Status) (text : List ℕ)
     → FitsBudget budget parsed.module s text → LowerAnswer budget bytes s text
-answer-of budget bytes parsed short is s text (within few) = lowered short (first bytes parsed is) few (same bytes parsed is budget few)
-answer-of budget bytes parsed short is s text (over many) = over_budget short (first bytes parsed is) many
+answer-of budget bytes parsed short is complete s text (within few) = lowered short (reads-as bytes parsed is complete) few (same bytes parsed is budget few)
+answer-of budget bytes parsed short is complete s text (over many) = over_budget short (reads-as bytes parsed is complete) many
 
-pub answered-parsed : (budget : ℕ) (bytes : List ℕ) (parsed : Parsed) → length bytes ≤ limit → Parses bytes parsed → (r : Result Reply Memory)
+pub answered-parsed : (budget : ℕ) (bytes : List ℕ) (parsed : Parsed) → length bytes ≤ limit → Parses bytes parsed
+    → ((p : Program) → IsProgram p → bytes ≡ text_of p → IsTreeOf p parsed) → (r : Result Reply Memory)
     → IfOk r (λ r. FitsBudget budget parsed.module r.status r.text) → IfOk r (λ r. LowerAnswer budget bytes r.status r.text)
-answered-parsed budget bytes parsed short is (Ok r) fits = answer-of budget bytes parsed short is r.status r.text fits
-answered-parsed budget bytes parsed short is (Err e) fits = fits
+answered-parsed budget bytes parsed short is complete (Ok r) fits = answer-of budget bytes parsed short is complete r.status r.text fits
+answered-parsed budget bytes parsed short is complete (Err e) fits = fits
 
 other-line : refusal_line (codes "read") (decimal 13) 1 1 (codes "FirstPath") ≡ other_text_line
 unfolding digits

@@ -5,6 +5,7 @@ mod Follow
 mod Gates
 mod Moves
 pub mod Numbers
+pub mod OneAnswer
 pub mod Programs
 mod Scopes
 pub mod Sending

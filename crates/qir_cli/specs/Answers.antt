@@ -1,5 +1,5 @@
 -- The answer of a command to an input: a status, and the text that is written.
-use Rattle.std.specs.Prelude.{ℕ, ◌+◌, ◌<◌, ◌≤◌, List, ◌++◌, length, codes, decimal}
+use Rattle.std.specs.Prelude.{◌≡◌, ℕ, ◌+◌, ◌<◌, ◌≤◌, List, ◌++◌, length, codes, decimal}
 use Rattle.ir_module.specs.declared.tree.Module.{Module}
 use Rattle.qir_cli.specs.declared.command.Command.{Command}
 use Rattle.qir_cli.specs.declared.command.Command.TheVariants.{LowerBase}
@@ -34,6 +34,11 @@ budget_line number = refusal_line (codes "lower") (codes "U4") (number + 2) 3 (c
 abbrev pub instructions : Module → ℕ
 instructions m = length (block_insts m) + 1
 
+-- the bytes are a text of one block with this tree, and with no other
+pub record ReadsAs (m : Module) (bytes : List ℕ) : Type 0 where
+  pub first : First m bytes
+  pub only : (other : Module) → First other bytes → other ≡ m
+
 -- `lower base` with a budget: the first that fits
 pub data LowerAnswer (budget : ℕ) (bytes : List ℕ) : Status → List ℕ → Type 0 where
   -- the input is too long
@@ -41,10 +46,10 @@ pub data LowerAnswer (budget : ℕ) (bytes : List ℕ) : Status → List ℕ →
   -- it is no text of one block
   other_text : length bytes ≤ limit → ((m : Module) → ¬ First m bytes) → LowerAnswer budget bytes status.Refused other_text_line
   -- it has more instructions than the budget: the first that is too much
-  over_budget : {m : Module} → length bytes ≤ limit → First m bytes → budget < instructions m
+  over_budget : {m : Module} → length bytes ≤ limit → ReadsAs m bytes → budget < instructions m
       → LowerAnswer budget bytes status.Refused (budget_line (budget + 1))
   -- the lowered module, which does what the module does
-  lowered : {m : Module} → length bytes ≤ limit → First m bytes → instructions m ≤ budget
+  lowered : {m : Module} → length bytes ≤ limit → ReadsAs m bytes → instructions m ≤ budget
       → SameBehaviour m (base_tree m) (naming_of m) budget → LowerAnswer budget bytes status.Done (base_text m)
 
 abbrev pub Answer : Command → List ℕ → Status → List ℕ → Type 0

@@ -5,5 +5,6 @@ pub mod BaseText
 pub mod BaseTree
 pub mod Budget
 pub mod Commands
+pub mod Laws
 pub mod Outcomes
 pub mod Statuses

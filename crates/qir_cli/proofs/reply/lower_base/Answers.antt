@@ -2,7 +2,7 @@ use Rattle.qir_cli.proofs.Answering.{answered-parsed, answered-refused}
 use Rattle.qir_cli.proofs.reply.lower_base.Goals as goal
 
 pub returns-in-Ok : goal.returns-in-Ok
-returns-in-Ok c = answered-parsed c.args.budget c.args.text.now c.in-Ok.parsed c.requires c.in-Ok.ensures.parsed c.lower_parsed.result c.lower_parsed.ensures
+returns-in-Ok c = answered-parsed c.args.budget c.args.text.now c.in-Ok.parsed c.requires c.in-Ok.ensures.parsed c.in-Ok.ensures.complete c.lower_parsed.result c.lower_parsed.ensures
 
 pub returns-in-Err-Refused : goal.returns-in-Err-Refused
 returns-in-Err-Refused c =

@@ -1,0 +1,10 @@
+//! Which local names are live at the points of a function.
+#![tactic(auto)]
+
+mod flow;
+mod marks;
+mod pairs;
+mod spread;
+mod triples;
+
+pub use flow::Flow;

@@ -1,0 +1,82 @@
+//! The names that are wanted at the starts and at the ends of blocks.
+ghost use Rattle.std.specs.Prelude.{◌≡◌, ◌<◌, length, slice_get, OnOk, IfOk};
+ghost use Rattle.name_flow.specs.Built.{AreEnds};
+ghost use Rattle.name_flow.specs.Spread as spec;
+
+use crate::pairs::Pairs;
+use crate::triples::Triples;
+use ir_values::Memory;
+use std::alloc::Global;
+
+/// The pairs of a block and a name that is wanted at its start, and at its end.
+#[derive(Drop)]
+struct Spread {
+    starts: Pairs,
+    ends: Pairs,
+}
+
+/// Adds each use that no definition in its block comes before.
+fn seed(starts: &mut Pairs, used: &Triples, defined: &Triples) -> Result<(), Memory>
+    ensures { OnOk result (spec.IsSeeded used.now defined.now starts.old starts.new) }
+{
+    for (b, x, i) in used.as_slice() {
+        let is_first = match defined.next(*b, *x, 0) {
+            Some(d) => *i <= d,
+            None => true,
+        };
+        if is_first {
+            starts.add((*b, *x))?;
+        }
+    }
+    Ok(())
+}
+
+impl Spread {
+    /// The name `x` is wanted at the end of the block `b`, and at its start if the block doesn't define it.
+    fn add(&mut self, defined: &Triples, b: u64, x: u64) -> Result<(), Memory>
+        ensures { OnOk result (spec.AddsEnd defined.now b x self.old.starts self.old.ends self.new.starts self.new.ends) }
+    {
+        self.ends.add((b, x))?;
+        if defined.next(b, x, 0).is_none() {
+            self.starts.add((b, x))?;
+        }
+        Ok(())
+    }
+
+    /// Adds `x` to each block from which an edge leads to `b`.
+    fn enter(
+        &mut self,
+        defined: &Triples,
+        edges: &Triples,
+        b: u64,
+        x: u64,
+    ) -> Result<(), Memory>
+        ensures { OnOk result (spec.Enters defined.now edges.now b x self.old.starts self.old.ends self.new.starts self.new.ends) }
+    {
+        let mut from = 0;
+        while let Some(p) = edges.next(b, 0, from) {
+            self.add(defined, p, x)?;
+            if p == u64::MAX {
+                return Ok(());
+            }
+            from = p + 1;
+        }
+        Ok(())
+    }
+}
+
+/// The pairs of a block and a name that is wanted at its end.
+pub(crate) fn ends(alloc: Global, used: &Triples, defined: &Triples, edges: &Triples) -> Result<Pairs, Memory>
+    ensures { IfOk result (λ ends. AreEnds used.now defined.now edges.now ends) }
+{
+    let mut spread = Spread { starts: Pairs::new(alloc), ends: Pairs::new(alloc) };
+    seed(&mut spread.starts, used, defined)?;
+    let mut done = 0;
+    while done < spread.starts.len() {
+        let (b, x) = spread.starts.at(done);
+        spread.enter(defined, edges, b, x)?;
+        done += 1;
+    }
+    let Spread { starts: _, ends } = spread;
+    Ok(ends)
+}

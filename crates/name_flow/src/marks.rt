@@ -1,7 +1,5 @@
 //! The uses and the definitions of local names in a function, and its edges.
-ghost use Rattle.std.specs.Prelude.{◌≡◌, ◌+◌, ◌^◌, ◌<◌, ◌++◌, [], length, map, OnOk};
-ghost use Rattle.std.specs.Option.{option_to_list};
-ghost use Rattle.ir_module.specs.Edges.{edges};
+ghost use Rattle.std.specs.Prelude.{◌≡◌, ◌+◌, ◌^◌, ◌<◌, ◌++◌, length, slice_get, OnOk, option_copied};
 ghost use Rattle.name_flow.specs.Marks as spec;
 ghost use Rattle.name_flow.specs.Uses.{reads, callee_reads, args_read, inst_reads, term_reads};
 
@@ -188,6 +186,12 @@ pub(crate) fn push_edges(marks: &mut Marks, mut b: u64, mut blocks: &[Block]) ->
     Ok(())
 }
 
+fn block_at(blocks: &[Block], b: u64) -> Option<&Block>
+    ensures { option_copied result ≡ slice_get blocks.now b }
+{
+    blocks.get(b as usize)
+}
+
 fn push_entry(
     marks: &mut Marks,
     blocks: &[Block],
@@ -198,14 +202,15 @@ fn push_entry(
     ensures { OnOk result (marks.new ≡ marks.old ++ spec.entry_used blocks.now edges.now b entry.now) }
 {
     let (a, from) = entry;
-    match blocks.get(from.0 as usize) {
-        Some(block) if edges.holds(b, 0, u64::from(from.0)) => push_operand(
-            marks,
-            u64::from(from.0),
-            end_index(block),
-            a,
-        ),
-        _ => Ok(()),
+    let from = u64::from(from.0);
+    match block_at(blocks, from) {
+        Some(block) => {
+            if edges.holds(b, 0, from) {
+                return push_operand(marks, from, end_index(block), a);
+            }
+            Ok(())
+        }
+        None => Ok(()),
     }
 }
 
@@ -261,6 +266,15 @@ pub(crate) fn push_phi_uses(
     Ok(())
 }
 
+fn push_end(marks: &mut Marks, blocks: &[Block], pair: (u64, u64)) -> Result<(), Memory>
+    ensures { OnOk result (marks.new ≡ marks.old ++ spec.end_used_at (slice_get blocks.now pair.0) pair) }
+{
+    match block_at(blocks, pair.0) {
+        Some(block) => marks.push((pair.0, pair.1, end_index(block))),
+        None => Ok(()),
+    }
+}
+
 /// Adds a use at the end of the block for each pair of a block and a name.
 pub(crate) fn push_end_uses(
     marks: &mut Marks,
@@ -269,10 +283,8 @@ pub(crate) fn push_end_uses(
 ) -> Result<(), Memory>
     ensures { OnOk result (marks.new ≡ marks.old ++ spec.ends_used blocks.now pairs.entry.now) }
 {
-    while let [(b, x), rest @ ..] = pairs {
-        if let Some(block) = blocks.get(*b as usize) {
-            marks.push((*b, *x, end_index(block)))?;
-        }
+    while let [pair, rest @ ..] = pairs {
+        push_end(marks, blocks, *pair)?;
         pairs = rest;
     }
     Ok(())

@@ -15,18 +15,28 @@ struct Spread {
     ends: Pairs,
 }
 
-/// Adds each use that no definition in its block comes before.
-fn seed(starts: &mut Pairs, used: &Triples, defined: &Triples) -> Result<(), Memory>
-    ensures { OnOk result (spec.IsSeeded used.now defined.now starts.old starts.new) }
+/// Adds the use where no definition in its block comes before it.
+fn seed_use(starts: &mut Pairs, defined: &Triples, used: (u64, u64, u64)) -> Result<(), Memory>
+    ensures { OnOk result (spec.Seeds defined.now used starts.old starts.new) }
 {
-    for (b, x, i) in used.as_slice() {
-        let is_first = match defined.next(*b, *x, 0) {
-            Some(d) => *i <= d,
-            None => true,
-        };
-        if is_first {
-            starts.add((*b, *x))?;
-        }
+    let (b, x, i) = used;
+    let is_first = match defined.next(b, x, 0) {
+        Some(d) => i <= d,
+        None => true,
+    };
+    if is_first {
+        starts.add((b, x))?;
+    }
+    Ok(())
+}
+
+/// Adds each use that no definition in its block comes before.
+fn seed(starts: &mut Pairs, mut uses: &[(u64, u64, u64)], defined: &Triples) -> Result<(), Memory>
+    ensures { OnOk result (spec.IsSeeded uses.entry.now defined.now starts.old starts.new) }
+{
+    while let [used, rest @ ..] = uses {
+        seed_use(starts, defined, *used)?;
+        uses = rest;
     }
     Ok(())
 }
@@ -51,14 +61,12 @@ impl Spread {
         b: u64,
         x: u64,
     ) -> Result<(), Memory>
+        requires { spec.IsNarrow edges.now }
         ensures { OnOk result (spec.Enters defined.now edges.now b x self.old.starts self.old.ends self.new.starts self.new.ends) }
     {
         let mut from = 0;
         while let Some(p) = edges.next(b, 0, from) {
             self.add(defined, p, x)?;
-            if p == u64::MAX {
-                return Ok(());
-            }
             from = p + 1;
         }
         Ok(())
@@ -67,10 +75,11 @@ impl Spread {
 
 /// The pairs of a block and a name that is wanted at its end.
 pub(crate) fn ends(alloc: Global, used: &Triples, defined: &Triples, edges: &Triples) -> Result<Pairs, Memory>
+    requires { spec.IsNarrow edges.now }
     ensures { IfOk result (λ ends. AreEnds used.now defined.now edges.now ends) }
 {
     let mut spread = Spread { starts: Pairs::new(alloc), ends: Pairs::new(alloc) };
-    seed(&mut spread.starts, used, defined)?;
+    seed(&mut spread.starts, used.as_slice(), defined)?;
     let mut done = 0;
     while done < spread.starts.len() {
         let (b, x) = spread.starts.at(done);

@@ -1,6 +1,7 @@
 //! Numbers that are looked up by two others, in a sorted list.
-ghost use Rattle.std.specs.Prelude.{◌≡◌};
-ghost use Rattle.name_flow.specs.Triples.{next, holds, Sorts};
+ghost use Rattle.std.specs.Prelude.{◌≡◌, ◌≤◌, true, false, length};
+ghost use Rattle.std.specs.List.Sorted.{IsPartitionPoint};
+ghost use Rattle.name_flow.specs.Triples.{next, holds, is_below, Ascends, NextHolds, Sorts};
 
 use std::marker::Model;
 
@@ -33,12 +34,17 @@ impl Triples {
 
     /// The least number from `c` on of a triple of `a` and `b`. It takes no memory.
     pub(crate) fn next(&self, a: u64, b: u64, c: u64) -> Option<u64>
-        ensures { result ≡ next self.now a b c }
+        ensures value { result ≡ next self.now a b c }
+        ensures held { NextHolds self.now a b c result }
     {
-        let start = self.items.partition_point(|t| *t < (a, b, c));
-        let (first, second, third) = *self.items.get(start)?;
-        if first == a && second == b {
-            Some(third)
+        let items = self.items.as_slice();
+        let start = start(items, a, b, c);
+        if start == items.len() {
+            return None;
+        }
+        let found = &items[start];
+        if found.0 == a && found.1 == b {
+            Some(found.2)
         } else {
             None
         }
@@ -68,4 +74,13 @@ impl Triples {
         let Triples { items } = self;
         items
     }
+}
+
+/// The number of triples before the triple of `a`, `b` and `c`.
+fn start(items: &[(u64, u64, u64)], a: u64, b: u64, c: u64) -> usize
+    requires { Ascends items.now }
+    ensures bound { result ≤ length items.now }
+    ensures point { IsPartitionPoint (λ t. is_below a b c t ≡ true) (λ t. is_below a b c t ≡ false) items.now result }
+{
+    items.partition_point(|t| *t < (a, b, c))
 }

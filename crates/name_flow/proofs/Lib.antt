@@ -1,3 +1,5 @@
 pub mod Order
 pub mod Members
 pub mod Spreading
+pub mod Marked
+pub mod Liveness

@@ -2,6 +2,7 @@
 ghost use Rattle.std.specs.Prelude.{◌≡◌, ◌++◌, slice_get, IfOk, IfSome};
 ghost use Rattle.name_flow.specs.Built.{IsBuiltFrom};
 ghost use Rattle.name_flow.specs.Marks.{gather, block_used, block_defined, block_edges, block_phis_used};
+ghost use Rattle.name_flow.specs.Spread.{IsNarrow};
 ghost use Rattle.name_flow.specs.Triples.{Sorts};
 ghost use Rattle.name_flow.specs.Tables.{live, IsFlowOf, HasBody};
 
@@ -67,7 +68,8 @@ impl Flow {
 }
 
 fn edges(alloc: Global, blocks: &[Block]) -> Result<Triples, Memory>
-    ensures { IfOk result (λ edges. Sorts (gather block_edges 0 blocks.now) edges) }
+    ensures sorted { IfOk result (λ edges. Sorts (gather block_edges 0 blocks.now) edges) }
+    ensures narrow { IfOk result IsNarrow }
 {
     let mut marks = Marks::new(alloc);
     push_edges(&mut marks, 0, blocks)?;

@@ -9,8 +9,8 @@ loop-done-init c = record {
 
 pub loop-done-preserved : goal.loop-done-preserved
 loop-done-preserved c = record {
-  spread = IsSpread-more c.args.used.now c.args.defined.now c.args.edges.now c.loop-done.spread.starts c.loop-done.spread.ends c.enter.new.self.starts c.enter.new.self.ends c.loop-done.done c.at.result.0 c.at.result.1 c.loop-done.invariant.spread c.loop-done.invariant.entered c.at.ensures c.in_ok-enter.ensures;
-  entered = AreEntered-more c.args.used.now c.args.defined.now c.args.edges.now c.loop-done.spread.starts c.loop-done.spread.ends c.enter.new.self.starts c.enter.new.self.ends c.loop-done.done c.at.result.0 c.at.result.1 c.loop-done.invariant.spread c.loop-done.invariant.entered c.at.ensures c.in_ok-enter.ensures }
+  spread = IsSpread-more c.args.used.now c.args.defined.now c.args.edges.now c.loop-done.spread.starts c.loop-done.spread.ends c.enter.new.self.starts c.enter.new.self.ends c.loop-done.done c.at-b.result.0 c.at-b.result.1 c.loop-done.invariant.spread c.loop-done.invariant.entered c.at-b.ensures c.in_ok-enter.ensures;
+  entered = AreEntered-more c.args.used.now c.args.defined.now c.args.edges.now c.loop-done.spread.starts c.loop-done.spread.ends c.enter.new.self.starts c.enter.new.self.ends c.loop-done.done c.at-b.result.0 c.at-b.result.1 c.loop-done.invariant.spread c.loop-done.invariant.entered c.at-b.ensures c.in_ok-enter.ensures }
 
 pub returns : goal.returns
 returns c = AreEnds-done c.args.used.now c.args.defined.now c.args.edges.now c.loop-done.spread.starts c.loop-done.spread.ends c.loop-done.done (omega arith) c.loop-done.invariant.spread c.loop-done.invariant.entered

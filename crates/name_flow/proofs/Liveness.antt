@@ -80,7 +80,6 @@ module _ (f : Function) (blocks : List Block) (body : f.blocks ≡ Some blocks) 
     (es_sorted : Sorts (gather block_edges 0 blocks) es)
     (defined_sorted : Sorts (gather block_defined 0 blocks) defined)
     (used_sorted : Sorts (gather block_used 0 blocks ++ gather (block_phis_used blocks es) 0 blocks) used) where
-
   defined-step : (b x i : ℕ) → Contains defined (b, x, i) → StepHas blocks step_defines b x i
   defined-step b x i m = defined-from blocks b x i (Contains-permutation defined (gather block_defined 0 blocks) (b, x, i) (IsPermutation-sym (gather block_defined 0 blocks) defined defined_sorted.same) m)
 
@@ -164,13 +163,16 @@ module _ (f : Function) (blocks : List Block) (body : f.blocks ≡ Some blocks) 
       single : (blk : Block) → p.index < end_index blk → (◌≡◌ {A = Point} (record p { index = p.index + 1 }) q) ⊎ Contains {X = Point} [] q → Moves blk p q
       single blk l (inl e) = along e l
       single blk l (inr n) = absurd (none q n)
+
       edge : (blk : Block) → p.index ≡ end_index blk → FromMap (first_point p) (edges blk.term) q → Moves blk p q
       edge blk l r = over r.source r.within r.is l
+
       by : (blk : Block) {s : Step} → At blk p.index s → Contains (successors p s) q → Moves blk p q
       by blk (at_phi phi h) n = single blk (omega (arith, get-below blk.phis p.index phi h)) (cases (let r : Point = record p { index = p.index + 1 } in r) q [] n)
       by blk (at_inst j inst h k) n = single blk (omega (arith, get-below blk.insts j inst k)) (cases (let r : Point = record p { index = p.index + 1 } in r) q [] n)
       by blk (at_term h) n = edge blk h (map-cases (first_point p) (edges blk.term) q n)
       by blk (at_none h) n = absurd (none q n)
+
       by-block : (o : Option Block) → slice_get blocks p.block.0 ≡ o → (blk : Block) × (slice_get blocks p.block.0 ≡ Some blk) × Moves blk p q
       by-block None e = absurd (none q (subst (λ s. Contains (successors p s) q) (point-none p e) m))
       by-block (Some blk) e = (blk, e, by blk (at blk p.index) (subst (λ s. Contains (successors p s) q) (point-step p blk e) m))
@@ -238,6 +240,7 @@ module _ (f : Function) (blocks : List Block) (body : f.blocks ≡ Some blocks) 
                 near : (z : Bool) → leb (p.index + 1) k ≡ z → ⊥
                 near true g = h.clear k (grind (arith, nat_tests)) m c
                 near false g = let same : k ≡ p.index = grind (arith, nat_tests) in not-defined p x blk e r.0 (subst (λ z. Contains defined (p.block.0, x, z)) same c)
+
         by : Reaches all defined q.block.0 x q.index → (blk : Block) × (slice_get blocks p.block.0 ≡ Some blk) × Moves blk p q → Reaches all defined p.block.0 x p.index
         by h (blk, e, along s l) = back blk e (subst (λ (z : Point). Reaches all defined z.block.0 x z.index) (sym s) h)
         by h (blk, e, over s m t l) =
@@ -251,6 +254,7 @@ module _ (f : Function) (blocks : List Block) (body : f.blocks ≡ Some blocks) 
       where
         by-use : StepHas blocks (step_reads f (block_id b)) b x r.index → IsLive f (pt g b i) (name x)
         by-use h = straight g b x h.blk h.at_block (r.index - i) i r.index (omega (arith, r.from)) (reads-within h.blk b r.index x h.has) r.clear (read-here g b x r.index h.blk h.at_block h.has)
+
         by-end : EndMark blocks ends b x r.index → IsLive f (pt g b i) (name x)
         by-end h =
             let w = (ends_are b x).0 h.listed in
@@ -261,9 +265,10 @@ module _ (f : Function) (blocks : List Block) (body : f.blocks ≡ Some blocks) 
             straight g b x h.blk h.at_block (r.index - i) i r.index (omega (arith, r.from)) (omega (arith, h.is)) r.clear (subst (λ j. IsLive f (pt g b j) (name x)) is at-end)
 
     pub answers : (p : Point) (x : ℕ) → (is_first (next all p.block.0 x p.index) (next defined p.block.0 x p.index) ≡ true) ↔ IsLive f p (name x)
-    answers p x =
-        ( λ e. lives p.func p.block.0 x p.index (first-reaches all defined p.block.0 x p.index (next all p.block.0 x p.index) (next defined p.block.0 x p.index) (next-is all p.block.0 x p.index all_sorted.ascends) (next-is defined p.block.0 x p.index defined_sorted.ascends) e)
-        , λ l. reaches-first all defined p.block.0 x p.index (next all p.block.0 x p.index) (next defined p.block.0 x p.index) (next-is all p.block.0 x p.index all_sorted.ascends) (next-is defined p.block.0 x p.index defined_sorted.ascends) (reached x l.walk p l.follows l.reads) )
+    answers p x = (
+      λ e. lives p.func p.block.0 x p.index (first-reaches all defined p.block.0 x p.index (next all p.block.0 x p.index) (next defined p.block.0 x p.index) (next-is all p.block.0 x p.index all_sorted.ascends) (next-is defined p.block.0 x p.index defined_sorted.ascends) e),
+      λ l. reaches-first all defined p.block.0 x p.index (next all p.block.0 x p.index) (next defined p.block.0 x p.index) (next-is all p.block.0 x p.index all_sorted.ascends) (next-is defined p.block.0 x p.index defined_sorted.ascends) (reached x l.walk p l.follows l.reads),
+    )
 
 -- the tables that are made of a function's blocks tell its live names
 pub IsFlowOf-built : (f : Function) (blocks : List Block) (flow : Flow) → f.blocks ≡ Some blocks → IsBuiltFrom blocks flow → IsFlowOf f flow

@@ -71,9 +71,11 @@ at blk i = by-phi (slice_get blk.phis i) refl
     by-end : slice_get blk.phis i ≡ None → slice_get blk.insts (i - length blk.phis) ≡ None → (n : ℕ) → i - (length blk.phis + length blk.insts) ≡ n → At blk i (step_at blk i)
     by-end e f zero g = subst (At blk i) (sym (step-term blk i e f g)) (at_term (omega (arith, get-none blk.phis i e, get-none blk.insts (i - length blk.phis) f, g)))
     by-end e f (suc n) g = subst (At blk i) (sym (step-none blk i n e f g)) (at_none (omega (arith, g)))
+
     by-inst : slice_get blk.phis i ≡ None → (o : Option Inst) → slice_get blk.insts (i - length blk.phis) ≡ o → At blk i (step_at blk i)
     by-inst e (Some inst) f = subst (At blk i) (sym (step-inst blk i inst e f)) (at_inst (i - length blk.phis) inst (omega (arith, get-none blk.phis i e)) f)
     by-inst e None f = by-end e f (i - (length blk.phis + length blk.insts)) refl
+
     by-phi : (o : Option Phi) → slice_get blk.phis i ≡ o → At blk i (step_at blk i)
     by-phi (Some phi) e = subst (At blk i) (sym (step-phi blk i phi e)) (at_phi phi e)
     by-phi None e = by-inst e (slice_get blk.insts (i - length blk.phis)) refl
@@ -133,6 +135,7 @@ module _ (blocks : List Block) where
     where
       by-inst : (b ≡ c) × InstHas (λ inst. option_to_list inst.result) (length blk.phis) blk.insts x i → (b ≡ c) × Contains (step_defines (step_at blk i)) (name x)
       by-inst r = (r.0, subst (λ s. Contains (step_defines s) (name x)) (sym (step-inst-at blk i r.1.number r.1.inst r.1.is r.1.at_number)) r.1.has)
+
       by-phi : Gathered (phi_defined b) 0 blk.phis (c, x, i) → (b ≡ c) × Contains (step_defines (step_at blk i)) (name x)
       by-phi r = found (cases (b, r.source.result.0, 0 + r.number) (c, x, i) [] r.within)
         where
@@ -215,9 +218,11 @@ module _ (blocks : List Block) where
         here-used from p h k =
             let test : eqb e.1.0 q ≡ true = let b = k.block in grind (arith, nat_tests) in
             record { from = from; at_from = sym (ap (slice_get blocks) k.block) ∙ p; is = sym k.index; edge = subst (λ z. holds es s 0 z ≡ true) k.block h; has = subst (λ r. Contains (if r then reads e.0 else []) (name x)) (sym test) k.has }
+
         by-edge : (from : Block) → slice_get blocks e.1.0 ≡ Some from → (r : Bool) → holds es s 0 e.1.0 ≡ r → Contains (if r then marks e.1.0 (end_index from) (reads e.0) else []) (q, x, i) → EdgeUse es s q x i (if e.1.0 == q then reads e.0 else [])
         by-edge from p true h n = here-used from p h (marks-cases e.1.0 (end_index from) (reads e.0) q x i n)
         by-edge from p false h n = absurd (none (q, x, i) n)
+
         by : (o : Option Block) → slice_get blocks e.1.0 ≡ o → Contains (entry_used_at o es s e) (q, x, i) → EdgeUse es s q x i (if e.1.0 == q then reads e.0 else [])
         by None p n = absurd (none (q, x, i) n)
         by (Some from) p n = by-edge from p (holds es s 0 e.1.0) refl n
@@ -276,6 +281,7 @@ module _ (f : Function) (blocks : List Block) (body : f.blocks ≡ Some blocks) 
     where
       by-inst : (b ≡ c) × InstHas (λ inst. inst_reads inst.what) (length blk.phis) blk.insts x i → (b ≡ c) × Contains (step_reads f (block_id c) (step_at blk i)) (name x)
       by-inst r = (r.0, subst (λ s. Contains (step_reads f (block_id c) s) (name x)) (sym (step-inst-at blk i r.1.number r.1.inst r.1.is r.1.at_number)) r.1.has)
+
       by-term : Marked b (end_index blk) (term_reads blk.term) c x i → (b ≡ c) × Contains (step_reads f (block_id c) (step_at blk i)) (name x)
       by-term k = (k.block, term-has c x i blk (sym k.index) (Contains-append_left (term_reads blk.term) (flat_map (phis-into c) (edges blk.term)) (name x) k.has))
 
@@ -290,6 +296,7 @@ module _ (f : Function) (blocks : List Block) (body : f.blocks ≡ Some blocks) 
           let k = block-used (0 + r.number) r.source b x i r.within in
           let same : r.number ≡ b = omega (arith, k.0) in
           record { blk = r.source; at_block = sym (ap (slice_get blocks) same) ∙ r.at; has = k.1 }
+
       by-phis : Gathered (block_phis_used blocks es) 0 blocks (b, x, i) → StepHas blocks (step_reads f (block_id b)) b x i
       by-phis r =
           let u = phis-from blocks es (0 + r.number) b x i r.source.phis r.within in
@@ -304,9 +311,11 @@ module _ (f : Function) (blocks : List Block) (body : f.blocks ≡ Some blocks) 
     where
       in-used : Contains (block_used b blk) (b, x, i) → Contains used_marks (b, x, i)
       in-used n = Contains-append_left (gather block_used 0 blocks) (gather (block_phis_used blocks es) 0 blocks) (b, x, i) (in-block blocks block_used b blk (b, x, i) e n)
+
       by-target : (s : BlockId) → Contains (edges blk.term) s → (o : Option Block) → slice_get blocks s.0 ≡ o → Contains (phis_read (block_id b) o) (name x) → i ≡ end_index blk → Contains used_marks (b, x, i)
       by-target s l None o n q = absurd (none (name x) n)
       by-target s l (Some target) o n q = Contains-append_right (gather block_used 0 blocks) (gather (block_phis_used blocks es) 0 blocks) (b, x, i) (in-block blocks (block_phis_used blocks es) s.0 target (b, x, i) o (subst (λ j. Contains (phis_used blocks es s.0 target.phis) (b, x, j)) (sym q) (phis-has blocks es s.0 b x blk e (edge-holds blocks es sorted b s.0 blk e l) target.phis n)))
+
       by : {s : Step} → At blk i s → Contains (step_reads f (block_id b) s) (name x) → Contains used_marks (b, x, i)
       by (at_phi phi p) n = absurd (none (name x) n)
       by (at_inst k inst q p) n = in-used (Contains-append_left (gather (inst_used b) (length blk.phis) blk.insts) (marks b (end_index blk) (term_reads blk.term)) (b, x, i) (subst (λ j. Contains (gather (inst_used b) (length blk.phis) blk.insts) (b, x, j)) (sym q) (Contains-insts (λ inst. inst_reads inst.what) b (length blk.phis) blk.insts k inst x p n)))
@@ -326,11 +335,13 @@ ends-from blocks (p ∷ ps) b x i m = elim (Contains-append_cases (end_used_at (
   where
     more : EndMark blocks ps b x i → EndMark blocks (p ∷ ps) b x i
     more r = record { blk = r.blk; at_block = r.at_block; is = r.is; listed = there p (b, x) ps r.listed }
+
     this : (blk : Block) → slice_get blocks p.0 ≡ Some blk → (◌≡◌ {A = Triple} (p.0, p.1, end_index blk) (b, x, i)) ⊎ Contains {X = Triple} [] (b, x, i) → EndMark blocks (p ∷ ps) b x i
     this blk o (inr n) = absurd (none (b, x, i) n)
     this blk o (inl e) =
         let pair : ◌≡◌ {A = Pair} p (b, x) = λ j. ((e j).0, (e j).1) in
         record { blk = blk; at_block = sym (ap (λ (q : Pair). slice_get blocks q.0) pair) ∙ o; is = sym (ap (λ (t : Triple). t.2) e); listed = subst (λ (q : Pair). Contains (p ∷ ps) q) pair (here p ps) }
+
     by : (o : Option Block) → slice_get blocks p.0 ≡ o → Contains (end_used_at o p) (b, x, i) → EndMark blocks (p ∷ ps) b x i
     by None o n = absurd (none (b, x, i) n)
     by (Some blk) o n = this blk o (cases (p.0, p.1, end_index blk) (b, x, i) [] n)

@@ -90,6 +90,7 @@ module _ (ts : List Triple) (a b c i : ℕ) (up : Ascends ts)
       later k d' m le =
           let far = sorted_far (λ x y. is_lt (triple_cmp x y)) (ranks_by triple_total (λ t. t)) ts up i k d le m in
           ap (is_from a b c) (same_default ts k d' d m) ∙ from_past a b c (get_or ts i d) (get_or ts k d) far (back i d (omega arith) l) other
+
       each : (k : ℕ) (d' : Triple) → k < length ts → is_from a b c (get_or ts k d') ≡ false
       each k d' m = elim (leb i k) as (λ r. leb i k ≡ r → is_from a b c (get_or ts k d') ≡ false) [ true ↦ λ e. later k d' m (grind (arith, nat_tests)) | false ↦ λ e. front k d' (grind (arith, nat_tests)) ] refl
 
@@ -147,10 +148,13 @@ next-is ts a b c up = go (find (is_from a b c) ts) refl
           where
             parts : (t.0 ≡ a) × (t.1 ≡ b) × (c ≤ t.2)
             parts = from-parts a b c t r.passes
+
             same : t ≡ (a, b, t.2)
             same = λ i. (parts.0 i, parts.1 i, t.2)
+
             here : get_or ts r.at (a, b, t.2) ≡ (a, b, t.2)
             here = same_default ts r.at (a, b, t.2) t r.within ∙ (r.is ∙ same)
+
             least : (k : ℕ) → c ≤ k → k < t.2 → Contains ts (a, b, k) → ⊥
             least k l m w = elim (ltb w.0 r.at) as (λ q. ltb w.0 r.at ≡ q → ⊥) [ true ↦ λ e. true≢false (sym (from-number a b c k l) ∙ (sym (ap (is_from a b c) w.2) ∙ r.first w.0 (a, b, k) (grind (arith, nat_tests)))) | false ↦ λ e. later (grind (arith, nat_tests)) ] refl
               where

@@ -98,12 +98,16 @@ module _ (defined : List Triple) where
     where
       first : Bool
       first = is_first (Some t.2) (next defined t.0 t.1 0)
+
       at-t : (b' x i : ℕ) → t ≡ (b', x, i) → is_first (Some i) (next defined b' x 0) ≡ true → Contains c (b', x)
       at-t b' x i e f = subst (λ (u : Triple). Contains c (u.0, u.1)) e (r.kept (t.0, t.1) (seeds-has t a b (is_first (Some t.2) (next defined t.0 t.1 0)) s (subst (λ (u : Triple). is_first (Some u.2) (next defined u.0 u.1 0) ≡ true) (sym e) f)))
+
       each : (b' x i : ℕ) → Contains (t ∷ rest) (b', x, i) → is_first (Some i) (next defined b' x 0) ≡ true → Contains c (b', x)
       each b' x i m f = elim (cases t (b', x, i) rest m) [ inl e ↦ at-t b' x i e f | inr n ↦ r.each b' x i n f ]
+
       from-t : (b' x : ℕ) → (◌≡◌ {A = Pair} (t.0, t.1) (b', x)) × (is_first (Some t.2) (next defined t.0 t.1 0) ≡ true) → IsFirstUse (t ∷ rest) defined b' x
       from-t b' x h = subst (λ (p : Pair). IsFirstUse (t ∷ rest) defined p.0 p.1) h.0 (let u : IsFirstUse (t ∷ rest) defined t.0 t.1 = record { index = t.2; here = here t rest; first = h.1 } in u)
+
       all : (b' x : ℕ) → Contains c (b', x) → Contains a (b', x) ⊎ IsFirstUse (t ∷ rest) defined b' x
       all b' x m = elim (r.all b' x m) [ inl n ↦ elim (seeds-cases t a b (b', x) (is_first (Some t.2) (next defined t.0 t.1 0)) s n) [ inl o ↦ inl o | inr h ↦ inr (from-t b' x h) ] | inr u ↦ inr (first-more t rest b' x u) ]
 
@@ -135,6 +139,7 @@ module _ (defined es : List Triple) (b x : ℕ) (s0 e0 : List Pair) where
   module _ (s e s' e' : List Pair) (from p : ℕ) (n : NextHolds es b 0 from (Some p)) (w : EntersWhere (λ q. ltb q from) defined es b x s0 e0 s e) (a : AddsEnd defined p x s e s' e') where
     sgrew : Grew s s'
     sgrew = grew-at (p, x) s s' (next defined p x 0) a.at_start
+
     egrew : Grew e e'
     egrew = Adds-grew (p, x) e e' a.at_end
 
@@ -155,6 +160,7 @@ module _ (defined es : List Triple) (b x : ℕ) (s0 e0 : List Pair) where
         before : Contains e0 (q, y) ⊎ ((y ≡ x) × (next defined q y 0 ≡ None → Contains s (q, y))) → Contains e0 (q, y) ⊎ ((y ≡ x) × (next defined q y 0 ≡ None → Contains s' (q, y)))
         before (inl h) = inl h
         before (inr h) = inr (h.0, λ k. Grew-keeps s s' (q, y) sgrew (h.1 k))
+
         at : ◌≡◌ {A = Pair} (p, x) (q, y) → next defined q y 0 ≡ None → Contains s' (q, y)
         at f k = subst (λ (t : Pair). Contains s' t) f (has-at (p, x) s s' (next defined p x 0) a.at_start (subst (λ (t : Pair). next defined t.0 t.1 0 ≡ None) (sym f) k))
 
@@ -219,6 +225,7 @@ module _ (used defined es : List Triple) where
       where
         in-s : k < length s → slice_get s k ≡ Some (c, y)
         in-s m = sym (Grew-get s s' k w.starts_grew m) ∙ g
+
         near : (r : Bool) → ltb k n ≡ r → Contains e' (p, y)
         near true f =
             let l' : k < n = grind (arith, nat_tests) in

@@ -8,3 +8,6 @@ mod spread;
 mod triples;
 
 pub use flow::Flow;
+
+#[cfg(test)]
+mod tests;

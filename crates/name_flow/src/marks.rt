@@ -28,12 +28,7 @@ fn push_callee(marks: &mut Marks, b: u64, i: u64, callee: &Callee) -> Result<(),
     }
 }
 
-fn push_args(
-    marks: &mut Marks,
-    b: u64,
-    i: u64,
-    mut args: &[(Ty, Operand)],
-) -> Result<(), Memory>
+fn push_args(marks: &mut Marks, b: u64, i: u64, mut args: &[(Ty, Operand)]) -> Result<(), Memory>
     ensures { OnOk result (marks.new ≡ marks.old ++ spec.marks b i (args_read args.entry.now)) }
 {
     while let [(_, a), rest @ ..] = args {
@@ -70,10 +65,7 @@ fn push_term(marks: &mut Marks, b: u64, i: u64, term: &Term) -> Result<(), Memor
     match term {
         Term::RetVoid | Term::Br(_) => Ok(()),
         Term::Ret(_, a) | Term::CondBr(a, _, _) | Term::Switch(_, a, _, _) => push_operand(
-            marks,
-            b,
-            i,
-            a,
+            marks, b, i, a,
         ),
     }
 }
@@ -152,7 +144,11 @@ fn push_definitions_in(marks: &mut Marks, b: u64, block: &Block) -> Result<(), M
 }
 
 /// Adds what the blocks from number `b` on define.
-pub(crate) fn push_definitions(marks: &mut Marks, mut b: u64, mut blocks: &[Block]) -> Result<(), Memory>
+pub(crate) fn push_definitions(
+    marks: &mut Marks,
+    mut b: u64,
+    mut blocks: &[Block],
+) -> Result<(), Memory>
     requires { b + length blocks.now < 2 ^ 64 }
     ensures { OnOk result (marks.new ≡ marks.old ++ spec.gather spec.block_defined b blocks.entry.now) }
 {

@@ -54,13 +54,7 @@ impl Spread {
     }
 
     /// Adds `x` to each block from which an edge leads to `b`.
-    fn enter(
-        &mut self,
-        defined: &Triples,
-        edges: &Triples,
-        b: u64,
-        x: u64,
-    ) -> Result<(), Memory>
+    fn enter(&mut self, defined: &Triples, edges: &Triples, b: u64, x: u64) -> Result<(), Memory>
         requires { spec.IsNarrow edges.now }
         ensures { OnOk result (spec.Enters defined.now edges.now b x self.old.starts self.old.ends self.new.starts self.new.ends) }
     {
@@ -74,11 +68,19 @@ impl Spread {
 }
 
 /// The pairs of a block and a name that is wanted at its end.
-pub(crate) fn ends(alloc: Global, used: &Triples, defined: &Triples, edges: &Triples) -> Result<Pairs, Memory>
+pub(crate) fn ends(
+    alloc: Global,
+    used: &Triples,
+    defined: &Triples,
+    edges: &Triples,
+) -> Result<Pairs, Memory>
     requires { spec.IsNarrow edges.now }
     ensures { IfOk result (λ ends. AreEnds used.now defined.now edges.now ends) }
 {
-    let mut spread = Spread { starts: Pairs::new(alloc), ends: Pairs::new(alloc) };
+    let mut spread = Spread {
+        starts: Pairs::new(alloc),
+        ends: Pairs::new(alloc),
+    };
     seed(&mut spread.starts, used.as_slice(), defined)?;
     let mut done = 0;
     while done < spread.starts.len() {

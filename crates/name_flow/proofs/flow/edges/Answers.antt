@@ -8,6 +8,6 @@ pub returns-clause-narrow : goal.returns-clause-narrow
 returns-clause-narrow c =
     let blocks = c.args.blocks.now in
     let items : c.into_vec.result.items ≡ gather block_edges 0 blocks =
-        c.into_vec.ensures ∙ (c.in_ok-push_edges.ensures ∙ ap (λ (l : List Triple). l ++ gather block_edges 0 blocks) c.new-marks.ensures) in
+    c.into_vec.ensures ∙ (c.in_ok-push_edges.ensures ∙ ap (λ (l : List Triple). l ++ gather block_edges 0 blocks) c.new-marks.ensures) in
     let small : length blocks < 2 ^ 64 = search rules in
     IsNarrow-sorted blocks c.sort.result small (subst (λ (l : List Triple). Sorts l c.sort.result) items c.sort.ensures)

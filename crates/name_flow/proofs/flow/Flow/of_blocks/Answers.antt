@@ -12,7 +12,7 @@ returns c =
     let listed : List Pair = c.as_slice.result.now in
     let before : c.from_vec-all.result ≡ used = c.from_vec-all.ensures ∙ c.into_vec.ensures in
     let after : c.push_end_uses.new.marks ≡ used ++ ends_used blocks ends =
-        c.in_ok-push_end_uses.ensures ∙ (ap (λ (l : List Triple). l ++ ends_used blocks listed) before ∙ ap (λ (q : List Pair). used ++ ends_used blocks q) c.as_slice.ensures) in
+    c.in_ok-push_end_uses.ensures ∙ (ap (λ (l : List Triple). l ++ ends_used blocks listed) before ∙ ap (λ (q : List Pair). used ++ ends_used blocks q) c.as_slice.ensures) in
     let items : c.into_vec-2.result.items ≡ used ++ ends_used blocks ends = c.into_vec-2.ensures ∙ after in
     let sorted : Sorts c.into_vec-2.result.items c.sort.result = record { same = c.sort.ensures.same; ascends = c.sort.ensures.ascends } in
     record {
@@ -23,4 +23,5 @@ returns c =
       defined_sorted = c.in_ok-defined.ensures;
       used_sorted = c.in_ok-used.ensures;
       ends_are = c.in_ok-ends.ensures;
-      all_sorted = subst (λ (l : List Triple). Sorts l c.sort.result) items sorted }
+      all_sorted = subst (λ (l : List Triple). Sorts l c.sort.result) items sorted;
+    }

@@ -30,6 +30,6 @@ returns-else-found-a c =
     let up : Ascends items = subst Ascends (sym c.as_slice-items.ensures.value) c.self.invariant in
     let within : c.start-start.result < length items = omega arith in
     let is = next-past items c.args.a c.args.b c.args.c c.start-start.result up c.start-start.ensures.point (0, 0, 0) within
-      (λ e f. elim c.else-found-a.branch [ else-found-a-via-then-found-a+else-found-b w ↦ absurd (omega (arith, f, w.if-found-b.false)) | else-found-a-via-else-found-a w ↦ absurd (omega (arith, e, w.if-found-a.false)) ]) in
+    (λ e f. elim c.else-found-a.branch [ else-found-a-via-then-found-a+else-found-b w ↦ absurd (omega (arith, f, w.if-found-b.false)) | else-found-a-via-else-found-a w ↦ absurd (omega (arith, e, w.if-found-a.false)) ]) in
     let value = sym is ∙ ap (λ l. next l c.args.a c.args.b c.args.c) same in
     record { value = value; held = subst (NextHolds c.args.self.now c.args.a c.args.b c.args.c) (sym value) (next-holds c.args.self.now c.args.a c.args.b c.args.c (subst Ascends same up)) }

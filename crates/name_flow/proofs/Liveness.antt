@@ -1,26 +1,25 @@
 -- The tables of a flow tell the names that are live by walks.
-use Rattle.std.proofs.Common.{◌≡◌, zero, suc, ◌⊎◌, ◌↔◌, Result, Ok, Err, IfOk, ℕ, ◌+◌, ◌-◌, ◌<◌, ◌≤◌, Bool, true, false, cond, ltb, leb, List, [], ◌∷◌, ◌++◌, length, map, Option, Some, None, refl, sym, ap, ◌∙◌, arith, inl, inr, subst, Contains, slice_get, true≢false}
+use Rattle.std.proofs.Common.{◌≡◌, zero, suc, ◌⊎◌, ◌↔◌, Result, Ok, Err, IfOk, ℕ, ◌+◌, ◌-◌, ◌<◌, ◌≤◌, Bool, true, false, ltb, leb, List, [], ◌∷◌, ◌++◌, Option, Some, None, refl, sym, ap, ◌∙◌, arith, inl, inr, subst, Contains, slice_get, true≢false}
 use Rattle.std.proofs.lemmas.Bool.Decides.{nat_tests}
 use Rattle.std.proofs.lemmas.List.Elements.{Contains-append_left, Contains-append_right, Contains-append_cases}
 use Rattle.std.proofs.lemmas.List.Sorted.{Contains-permutation, IsPermutation-sym}
 use Rattle.ir_values.specs.declared.value.BlockId.{BlockId}
 use Rattle.ir_values.specs.declared.value.FuncId.{FuncId}
-use Rattle.ir_values.specs.declared.value.LocalId.{LocalId}
 use Rattle.ir_module.specs.declared.places.Point.{Point}
 use Rattle.ir_module.specs.declared.tree.Block.{Block}
 use Rattle.ir_module.specs.declared.tree.Function.{Function}
 use Rattle.ir_module.specs.Edges.{edges}
-use Rattle.ir_module.specs.Steps.{Step, PhiAt, InstAt, TermAt, NoStep, step_at, step_of_point}
+use Rattle.ir_module.specs.Steps.{Step, TermAt, NoStep, step_at, step_of_point}
 use Rattle.name_flow.specs.declared.flow.Flow.{Flow}
 use Rattle.name_flow.specs.Built.{AreEnds, IsBuiltFrom}
 use Rattle.name_flow.specs.Marks.{gather, block_used, block_defined, block_edges, block_phis_used, end_index, ends_used}
 use Rattle.name_flow.specs.Spread.{Pair, IsWanted, used_here, used_later, IsWantedAfter}
 use Rattle.name_flow.specs.Tables.{live, IsFlowOf}
-use Rattle.name_flow.specs.Triples.{Triple, next, holds, is_first, Sorts}
+use Rattle.name_flow.specs.Triples.{Triple, next, is_first, Sorts}
 use Rattle.name_flow.specs.Uses.{step_reads, step_defines}
 use Rattle.name_flow.specs.Walks.{successors, first_point, IsWalk, ReadsFirst, IsLive}
-use Rattle.name_flow.proofs.Marked.{name, block_id, At, at_phi, at_inst, at_term, at_none, at, get-below, StepHas, defined-from, defined-has, Edge, edge-from, edge-holds, used-from, used-has, EndMark, ends-from, ends-has, some-block, step-term-at}
-use Rattle.name_flow.proofs.Members.{none, here, there, cases, Contains-map, FromMap, map-cases}
+use Rattle.name_flow.proofs.Marked.{name, block_id, At, at_phi, at_inst, at_term, at_none, at, get-below, StepHas, defined-from, defined-has, edge-from, edge-holds, used-from, used-has, EndMark, ends-from, ends-has, some-block, step-term-at}
+use Rattle.name_flow.proofs.Members.{none, here, cases, Contains-map, FromMap, map-cases}
 use Rattle.name_flow.proofs.Order.{NextIs, next-is}
 
 -- the first use from i on, with no definition between

@@ -1,5 +1,5 @@
 -- The marks of a function's blocks are what its steps read and define.
-use Rattle.std.proofs.Common.{◌≡◌, zero, suc, ◌⊎◌, ℕ, ◌+◌, ◌-◌, ◌<◌, ◌≤◌, Bool, true, false, cond, eqb, List, [], ◌∷◌, ◌++◌, length, map, flat_map, Option, Some, None, refl, sym, ap, ◌∙◌, arith, inl, inr, subst, Contains, slice_get, true≢false, if◌then◌else◌, ◌==◌, ◌^◌, IsPermutation}
+use Rattle.std.proofs.Common.{◌≡◌, zero, suc, ◌⊎◌, ℕ, ◌+◌, ◌-◌, ◌<◌, ◌≤◌, Bool, true, false, eqb, List, [], ◌∷◌, ◌++◌, length, flat_map, Option, Some, None, refl, sym, ap, ◌∙◌, arith, inl, inr, subst, Contains, slice_get, if◌then◌else◌, ◌==◌, ◌^◌}
 use Rattle.std.specs.Option.{option_to_list}
 use Rattle.std.proofs.lemmas.Bool.Decides.{nat_tests}
 use Rattle.std.proofs.lemmas.List.Elements.{Contains-append_left, Contains-append_right, Contains-append_cases}
@@ -14,7 +14,7 @@ use Rattle.ir_module.specs.declared.tree.Phi.{Phi}
 use Rattle.ir_module.specs.Edges.{edges}
 use Rattle.ir_module.specs.Steps.{Step, PhiAt, InstAt, TermAt, NoStep, step_at}
 use Rattle.ir_module.specs.Tree.{block_at}
-use Rattle.name_flow.specs.Marks.{gather, marks, inst_used, inst_defined, phi_defined, end_index, block_used, block_defined, edges_into, block_edges, entry_used_at, entry_used, entries_used, phis_used, block_phis_used, end_used_at, ends_used}
+use Rattle.name_flow.specs.Marks.{gather, marks, inst_used, inst_defined, phi_defined, end_index, block_used, block_defined, block_edges, entry_used_at, entry_used, entries_used, phis_used, block_phis_used, end_used_at, ends_used}
 use Rattle.name_flow.specs.Spread.{Pair, IsNarrow}
 use Rattle.name_flow.specs.Triples.{Triple, holds, Sorts}
 use Rattle.name_flow.specs.Uses.{reads, inst_reads, term_reads, entries_read, phis_read, step_reads, step_defines}

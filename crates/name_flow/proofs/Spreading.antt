@@ -1,10 +1,10 @@
 -- How pairs are added, and what follows for the names that are wanted.
-use Rattle.std.proofs.Common.{◌≡◌, zero, suc, ◌⊎◌, ℕ, ◌+◌, ◌<◌, ◌≤◌, Bool, true, false, cond, eqb, List, [], ◌∷◌, ◌++◌, length, get_or, Option, Some, None, refl, sym, ap, ◌∙◌, arith, inl, inr, subst, Contains, slice_get, if◌then◌else◌, ◌&&◌, nat_eq, ltb, leb, take, drop, ◌-◌, true≢false, MatchBool, ◌↔◌, length-append, append_assoc}
+use Rattle.std.proofs.Common.{◌≡◌, zero, suc, ◌⊎◌, ℕ, ◌+◌, ◌<◌, ◌≤◌, Bool, true, false, List, [], ◌∷◌, ◌++◌, length, get_or, Option, Some, None, refl, sym, ap, ◌∙◌, arith, inl, inr, subst, Contains, slice_get, if◌then◌else◌, ◌&&◌, nat_eq, ltb, take, drop, ◌-◌, true≢false, MatchBool, append_assoc}
 use Rattle.std.specs.List.{list_any}
 use Rattle.std.proofs.lemmas.Map.Views.{Contains-from_any}
 use Rattle.std.proofs.lemmas.Bool.Decides.{nat_tests}
 use Rattle.std.proofs.lemmas.Grind.{common_steps}
-use Rattle.std.proofs.lemmas.List.Elements.{Contains-append_left, Contains-append_right, Contains-append_cases, Contains-push, Contains-push_cases}
+use Rattle.std.proofs.lemmas.List.Elements.{Contains-append_left, Contains-push, Contains-push_cases}
 use Rattle.name_flow.specs.Spread.{Pair, Adds, Grew, IsWanted, used_here, used_later, IsWantedAfter, IsSpread, AreEntered, IsFirstUse, Seeds, IsSeeded, GrewAt, AddsEnd, EntersWhere, Enters}
 use Rattle.name_flow.specs.Built.{AreEnds}
 use Rattle.name_flow.proofs.Members.{none, here, there, cases}

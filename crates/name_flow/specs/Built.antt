@@ -1,5 +1,5 @@
 -- How the tables of a flow are made from the blocks of a function.
-use Rattle.std.specs.Prelude.{◌↔◌, ℕ, List, ◌++◌, Contains, IsPermutation}
+use Rattle.std.specs.Prelude.{◌↔◌, ℕ, List, ◌++◌, Contains}
 use Rattle.ir_module.specs.declared.tree.Block.{Block}
 use Rattle.name_flow.specs.declared.flow.Flow.{Flow}
 use Rattle.name_flow.specs.Marks.{gather, block_used, block_defined, block_edges, block_phis_used, ends_used}

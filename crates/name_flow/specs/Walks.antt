@@ -1,5 +1,5 @@
 -- Walks through a function, and the names that are live at a point.
-use Rattle.std.specs.Prelude.{ℕ, ◌+◌, List, [], ◌∷◌, map, Contains}
+use Rattle.std.specs.Prelude.{◌+◌, List, [], ◌∷◌, map, Contains}
 use Rattle.ir_values.specs.declared.value.BlockId.{BlockId}
 use Rattle.ir_values.specs.declared.value.LocalId.{LocalId}
 use Rattle.ir_module.specs.declared.places.Point.{Point}

@@ -1,4 +1,4 @@
-use Rattle.std.proofs.Common.{◌≡◌, ◌++◌, List, subst, ap, ◌∙◌, rules, arith, length, ◌<◌, ◌^◌}
+use Rattle.std.proofs.Common.{◌≡◌, ◌++◌, List, subst, ap, ◌∙◌, rules, length, ◌<◌, ◌^◌}
 use Rattle.name_flow.specs.Marks.{gather, block_edges}
 use Rattle.name_flow.specs.Triples.{Triple, Sorts}
 use Rattle.name_flow.proofs.Marked.{IsNarrow-sorted}

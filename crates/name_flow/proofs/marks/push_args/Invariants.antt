@@ -1,4 +1,4 @@
-use Rattle.std.proofs.Common.{◌≡◌, ◌++◌, ◌+◌, ◌<◌, ◌^◌, length}
+use Rattle.std.proofs.Common.{◌≡◌, ◌++◌, length}
 use Rattle.name_flow.specs.Marks as spec
 use Rattle.name_flow.specs.Uses.{args_read}
 use Rattle.name_flow.proofs.marks.push_args.Given as goal

@@ -1,4 +1,4 @@
-use Rattle.std.proofs.Common.{◌≡◌, arith}
+use Rattle.std.proofs.Common.{arith}
 use Rattle.std.proofs.lemmas.Grind.{common_steps}
 use Rattle.ir_values.specs.declared.value.BlockId.{BlockId}
 use Rattle.name_flow.specs.Triples.{Triple}

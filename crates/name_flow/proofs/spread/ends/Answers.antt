@@ -1,4 +1,4 @@
-use Rattle.std.proofs.Common.{rules, arith}
+use Rattle.std.proofs.Common.{arith}
 use Rattle.name_flow.proofs.Spreading.{IsSpread-start, AreEntered-none, IsSpread-more, AreEntered-more, AreEnds-done}
 use Rattle.name_flow.proofs.spread.ends.Goals as goal
 

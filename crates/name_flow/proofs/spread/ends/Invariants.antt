@@ -1,4 +1,4 @@
-use Rattle.std.proofs.Common.{◌-◌, ◌^◌, length, ◌≤◌}
+use Rattle.std.proofs.Common.{◌-◌, ◌^◌}
 use Rattle.name_flow.specs.Spread.{IsSpread, AreEntered}
 use Rattle.name_flow.proofs.spread.ends.Given as goal
 

@@ -1,5 +1,4 @@
-use Rattle.std.proofs.Common.{rules}
-use Rattle.name_flow.proofs.Spreading.{IsSeeded-uncons, IsSeeded-none}
+use Rattle.name_flow.proofs.Spreading.{IsSeeded-uncons}
 use Rattle.name_flow.proofs.spread.seed.Goals as goal
 
 pub loop-uses-preserved : goal.loop-uses-preserved

@@ -1,4 +1,4 @@
-use Rattle.std.proofs.Common.{rules, sym}
+use Rattle.std.proofs.Common.{sym}
 use Rattle.name_flow.proofs.Spreading.{added}
 use Rattle.name_flow.proofs.pairs.Pairs.add.Goals as goal
 

@@ -1,4 +1,3 @@
-use Rattle.std.proofs.Common.{rules}
 use Rattle.name_flow.proofs.Spreading.{Enters-more}
 use Rattle.name_flow.proofs.spread.Spread.enter.Goals as goal
 

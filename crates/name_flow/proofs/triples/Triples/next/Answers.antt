@@ -1,4 +1,4 @@
-use Rattle.std.proofs.Common.{rules, ◌≡◌, sym, ap, subst, ◌∙◌, length, ◌<◌, arith, List}
+use Rattle.std.proofs.Common.{◌≡◌, sym, ap, subst, ◌∙◌, length, ◌<◌, arith, List}
 use Rattle.name_flow.specs.Triples.{next, Ascends, Triple, NextHolds}
 use Rattle.name_flow.proofs.Order.{next-end, next-here, next-past, next-holds}
 use Rattle.name_flow.proofs.triples.Triples.next.Goals as goal

@@ -7,7 +7,8 @@
 #![tactic(auto)]
 
 use ir_module::{
-    Attrs, Block, Blocks, Function, Functions, Inst, InstKind, Insts, Locals, Module, Operand, Phis, Point, Term,
+    Attrs, Block, Blocks, Function, Functions, Inst, InstKind, Insts, Locals, Module, Operand,
+    Phis, Point, Term,
 };
 use ir_values::{BinOp, BlockId, Flags, FuncId, LocalId, Memory, Name, Seq, Ty, Width};
 use name_flow::Flow;
@@ -16,7 +17,12 @@ use std::io;
 
 /// The name that instruction `i` of block `b` defines.
 fn defined(n: u32, b: u32, i: u32) -> LocalId {
-    LocalId(u64::from(b).wrapping_mul(u64::from(n)).wrapping_add(u64::from(i)).wrapping_add(1))
+    LocalId(
+        u64::from(b)
+            .wrapping_mul(u64::from(n))
+            .wrapping_add(u64::from(i))
+            .wrapping_add(1),
+    )
 }
 
 fn sum(n: u32, b: u32, i: u32) -> Inst {
@@ -29,7 +35,13 @@ fn sum(n: u32, b: u32, i: u32) -> Inst {
     let before = Operand::Local(LocalId(name.0.saturating_sub(1)));
     Inst {
         result: Some(name),
-        what: InstKind::Binary(BinOp::Add, flags, Ty::Int(Width::W64), before, Operand::Local(LocalId(0))),
+        what: InstKind::Binary(
+            BinOp::Add,
+            flags,
+            Ty::Int(Width::W64),
+            before,
+            Operand::Local(LocalId(0)),
+        ),
     }
 }
 

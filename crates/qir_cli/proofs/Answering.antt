@@ -13,10 +13,10 @@ use Rattle.qir_meaning.specs.Same.{SameBehaviour}
 use Rattle.qir_cli.specs.declared.reply.Reply.{Reply}
 use Rattle.qir_cli.specs.declared.status.Status.{Status}
 use Rattle.qir_cli.specs.declared.status.Status.TheVariants.{Refused}
-use Rattle.qir_cli.specs.Answers.{limit, instructions, refusal_line, other_text_line, ReadsAs, LowerAnswer, other_text, over_budget, lowered}
+use Rattle.qir_cli.specs.Answers.{limit, instructions, refusal_line, other_text_line, ReadsAs, AlwaysRuns, LowerAnswer, other_text, over_budget, lowered}
 use Rattle.qir_cli.specs.BaseTree.{base_tree, naming_of}
 use Rattle.qir_cli.specs.Budget.{FitsBudget, within, over}
-use Rattle.qir_cli.proofs.BaseBehaviour.{base_tree-SameBehaviour}
+use Rattle.qir_cli.proofs.BaseBehaviour.{base_tree-SameBehaviour, base_tree-HasRun}
 use Rattle.qir_cli.proofs.Programs.{instructions-tree_of}
 
 -- a module that was parsed does the same when it is lowered
@@ -25,6 +25,12 @@ same : (bytes : List ℕ) (parsed : Parsed) → Parses bytes parsed → (budget 
 same bytes parsed is budget few =
     let lines : length is.program.lines + 1 ≤ budget = subst (λ n. n ≤ budget) (ap instructions is.tree.tree ∙ instructions-tree_of is.program) few in
     subst (λ m. SameBehaviour m (base_tree m) (naming_of m) budget) (sym is.tree.tree) (base_tree-SameBehaviour is.program is.is_program budget lines)
+
+-- and both always have a run
+runs : (bytes : List ℕ) (parsed : Parsed) → Parses bytes parsed → AlwaysRuns parsed.module × AlwaysRuns (base_tree parsed.module)
+runs bytes parsed is =
+    subst (λ m. AlwaysRuns m × AlwaysRuns (base_tree m)) (sym is.tree.tree)
+    ((λ answers n. (base_tree-HasRun is.program is.is_program answers n).0), (λ answers n. (base_tree-HasRun is.program is.is_program answers n).1))
 
 reads-as : (bytes : List ℕ) (parsed : Parsed) → Parses bytes parsed → ((p : Program) → IsProgram p → bytes ≡ text_of p → IsTreeOf p parsed) → ReadsAs parsed.module bytes
 reads-as bytes parsed is complete = record {
@@ -35,7 +41,7 @@ reads-as bytes parsed is complete = record {
 answer-of : (budget : ℕ) (bytes : List ℕ) (parsed : Parsed) → length bytes ≤ limit → Parses bytes parsed
     → ((p : Program) → IsProgram p → bytes ≡ text_of p → IsTreeOf p parsed) → (s : Status) (text : List ℕ)
     → FitsBudget budget parsed.module s text → LowerAnswer budget bytes s text
-answer-of budget bytes parsed short is complete s text (within few) = lowered short (reads-as bytes parsed is complete) few (same bytes parsed is budget few)
+answer-of budget bytes parsed short is complete s text (within few) = lowered short (reads-as bytes parsed is complete) few (same bytes parsed is budget few) (runs bytes parsed is).0 (runs bytes parsed is).1
 answer-of budget bytes parsed short is complete s text (over many) = over_budget short (reads-as bytes parsed is complete) many
 
 pub answered-parsed : (budget : ℕ) (bytes : List ℕ) (parsed : Parsed) → length bytes ≤ limit → Parses bytes parsed

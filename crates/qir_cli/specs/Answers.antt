@@ -1,11 +1,13 @@
 -- The answer of a command to an input: a status, and the text that is written.
 use Rattle.std.specs.Prelude.{◌≡◌, ℕ, ◌+◌, ◌<◌, ◌≤◌, List, ◌++◌, length, codes, decimal}
+use Rattle.backend_api.specs.declared.operation.Answer.{Answer as MachineAnswer}
 use Rattle.ir_module.specs.declared.tree.Module.{Module}
 use Rattle.qir_cli.specs.declared.command.Command.{Command}
 use Rattle.qir_cli.specs.declared.command.Command.TheVariants.{LowerBase}
 use Rattle.qir_cli.specs.declared.status.Status.{Status}
 use Rattle.qir_cli.specs.declared.status.Status.TheVariants as status
 use Rattle.ir_reader.specs.First.{First}
+use Rattle.qir_meaning.specs.Laws.{HasRun}
 use Rattle.qir_meaning.specs.Same.{SameBehaviour}
 use Rattle.qir_cli.specs.BaseGates.{block_insts}
 use Rattle.qir_cli.specs.BaseText.{base_text}
@@ -39,6 +41,10 @@ pub record ReadsAs (m : Module) (bytes : List ℕ) : Type 0 where
   pub first : First m bytes
   pub only : (other : Module) → First other bytes → other ≡ m
 
+-- a run for every list of answers and every bound of steps
+abbrev pub AlwaysRuns : Module → Type 0
+AlwaysRuns m = (answers : List MachineAnswer) (n : ℕ) → HasRun m answers n
+
 -- `lower base` with a budget: the first that fits
 pub data LowerAnswer (budget : ℕ) (bytes : List ℕ) : Status → List ℕ → Type 0 where
   -- the input is too long
@@ -48,9 +54,10 @@ pub data LowerAnswer (budget : ℕ) (bytes : List ℕ) : Status → List ℕ →
   -- it has more instructions than the budget: the first that is too much
   over_budget : {m : Module} → length bytes ≤ limit → ReadsAs m bytes → budget < instructions m
       → LowerAnswer budget bytes status.Refused (budget_line (budget + 1))
-  -- the lowered module, which does what the module does
+  -- the lowered module, which does what the module does; both have a run whatever the machine answers
   lowered : {m : Module} → length bytes ≤ limit → ReadsAs m bytes → instructions m ≤ budget
-      → SameBehaviour m (base_tree m) (naming_of m) budget → LowerAnswer budget bytes status.Done (base_text m)
+      → SameBehaviour m (base_tree m) (naming_of m) budget → AlwaysRuns m → AlwaysRuns (base_tree m)
+      → LowerAnswer budget bytes status.Done (base_text m)
 
 abbrev pub Answer : Command → List ℕ → Status → List ℕ → Type 0
 Answer (LowerBase budget) bytes s text = LowerAnswer budget bytes s text

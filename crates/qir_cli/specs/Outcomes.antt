@@ -7,7 +7,8 @@ use Rattle.qir_cli.specs.declared.status.Status.{Status}
 use Rattle.qir_cli.specs.declared.status.Status.TheVariants.{Done, Refused, BadWords, Stopped, ReadFault, WriteFault, Memory}
 use Rattle.qir_cli.specs.Answers.{Answer}
 use Rattle.qir_cli.specs.Commands.{command_of}
-use Rattle.qir_ports.specs.Known.{Rose, Takes}
+use Rattle.ir_values.specs.Counts.{Rose}
+use Rattle.qir_ports.specs.Known.{Takes}
 
 -- the statuses that come with the whole of an answer
 abbrev pub IsAnswered : Status → Type 0

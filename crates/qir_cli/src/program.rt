@@ -1,6 +1,7 @@
 //! The whole program, over any source and sink.
 ghost use Rattle.std.specs.Prelude.{◌≡◌, ◌≤◌, ◌+◌, ◌↔◌, None};
-ghost use Rattle.qir_ports.specs.Known.{Rose, Takes, GivesUpTo};
+ghost use Rattle.ir_values.specs.Counts.{Rose};
+ghost use Rattle.qir_ports.specs.Known.{Takes, GivesUpTo};
 ghost use Rattle.qir_cli.specs.Answers.{limit};
 ghost use Rattle.qir_cli.specs.Commands.{command_of, texts_of};
 ghost use Rattle.qir_cli.specs.Outcomes.{Answered, PartlyAnswered, Sends, IsAnswered, IsUnwritten};

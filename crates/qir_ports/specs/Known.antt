@@ -1,14 +1,6 @@
--- What a call does to the bytes that a source has left or that a sink took, where they are told, and to a count of faults.
-use Rattle.std.specs.Prelude.{◌≡◌, ℕ, ◌+◌, ◌-◌, ◌^◌, ◌<◌, ◌≤◌, min, List, [], ◌++◌, length, drop, Option, IfSome}
+-- What a call does to the bytes that a source has left or that a sink took, where they are told.
+use Rattle.std.specs.Prelude.{◌≡◌, ℕ, ◌+◌, ◌<◌, ◌≤◌, List, [], ◌++◌, length, drop, Option, IfSome}
 use Rattle.std.specs.Option.{option_map}
-
--- one more on a count that stands still at the last value of a u64
-abbrev pub one_more : ℕ → ℕ
-one_more count = min (count + 1) (2 ^ 64 - 1)
-
--- the count rose, or it stands at that last value
-abbrev pub Rose : ℕ → ℕ → Type 0
-Rose before now = one_more before ≤ now
 
 -- the bytes that were left are these, and then those that are left now
 abbrev pub Gives : Option (List ℕ) → List ℕ → Option (List ℕ) → Type 0

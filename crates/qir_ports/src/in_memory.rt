@@ -1,7 +1,7 @@
 //! A source and a sink in memory, which tell their bytes and can be told to fail.
 ghost use Rattle.std.specs.Prelude.{◌≡◌, ◌+◌, ◌-◌, ◌<◌, ◌≤◌, ◌++◌, [], ◌&&◌, ◌||◌, ◌==◌, not, length, take, drop, min, is_err, Some, IfOk, OnErr, OnOk};
 ghost use Rattle.qir_ports.specs.InMemory.{next_fails};
-ghost use Rattle.qir_ports.specs.Known.{one_more};
+ghost use Rattle.ir_values.specs.Counts.{one_more};
 
 use crate::port::{Failed, Sink, Source};
 use ir_values::{Bytes, Memory, Room, Seq};

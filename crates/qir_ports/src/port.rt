@@ -1,6 +1,7 @@
 //! Sources and sinks of bytes.
 ghost use Rattle.std.specs.Prelude.{◌≡◌, ℕ, ◌<◌, ◌≤◌, List, length, take, Option, IfOk, OnErr};
-ghost use Rattle.qir_ports.specs.Known.{Rose, Gives, Takes, IsAtEnd};
+ghost use Rattle.ir_values.specs.Counts.{Rose};
+ghost use Rattle.qir_ports.specs.Known.{Gives, Takes, IsAtEnd};
 
 use thiserror::Error;
 

@@ -1,7 +1,7 @@
 //! The standard streams as a source and a sink. They tell nothing of their bytes: what a terminal, a
 //! file or a pipe gives or takes stands outside every contract.
 ghost use Rattle.std.specs.Prelude.{◌≡◌, ◌<◌, ◌≤◌, [], length, None, IsOk, IfOk, OnOk, OnErr};
-ghost use Rattle.qir_ports.specs.Known.{one_more};
+ghost use Rattle.ir_values.specs.Counts.{one_more};
 
 use crate::port::{Failed, Sink, Source};
 use std::io::Read;

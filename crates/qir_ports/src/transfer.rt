@@ -1,6 +1,7 @@
 //! Reading and writing whole texts.
 ghost use Rattle.std.specs.Prelude.{◌≡◌, ◌+◌, ◌^◌, ◌<◌, ◌≤◌, [], length, take, vec_len, IfOk, OnOk, OnErr, IfErr};
-ghost use Rattle.qir_ports.specs.Known.{Rose, Gives, Takes, IsAtEnd, GivesAll, GivesTooMany, GivesUpTo};
+ghost use Rattle.ir_values.specs.Counts.{Rose};
+ghost use Rattle.qir_ports.specs.Known.{Gives, Takes, IsAtEnd, GivesAll, GivesTooMany, GivesUpTo};
 ghost use Rattle.qir_ports.specs.declared.transfer.ReadError.TheVariants as error;
 
 use crate::port::{Failed, Sink, Source};

@@ -1,9 +1,9 @@
 //! A list with room for more, whose pushes need no memory while there is room.
-ghost use Rattle.std.specs.Prelude.{◌≡◌, ◌+◌, ◌-◌, ◌<◌, ◌≤◌, [], ◌∷◌, ◌++◌, length, OnOk, OnErr, IsOk};
+ghost use Rattle.std.specs.Prelude.{◌≡◌, ◌+◌, ◌-◌, ◌<◌, ◌≤◌, [], ◌∷◌, ◌++◌, length, OnOk, OnErr, IfErr, IsOk};
 
 use crate::memory::Memory;
 use crate::seq::Seq;
-use std::alloc::Global;
+use std::alloc::{AllocFailed, Global};
 use std::marker::Model;
 
 /// A list of items, seen by contracts as its items and the number of items that it has room for.
@@ -50,26 +50,24 @@ impl<T> Room<T> {
         Ok(())
     }
 
+    /// Adds `x` last, which needs no memory where there is room. An error hands `x` back and leaves the
+    /// items as they were.
+    pub fn push(&mut self, x: T) -> Result<(), AllocFailed<T>>
+        ensures ok { OnOk result (self.new.items ≡ self.old.items ++ x ∷ []) }
+        ensures err { OnErr result (self.new.items ≡ self.old.items) }
+        ensures back { IfErr result (λ failed. failed.value ≡ x) }
+        ensures succeeds { 0 < self.old.spare → IsOk result }
+        ensures spare { self.old.spare ≤ self.new.spare + 1 }
+    {
+        self.items.push(x)
+    }
+
     /// The list alone. It takes no memory.
     pub fn into_seq(self) -> Seq<T>
         ensures { result ≡ self.items }
     {
         let Room { items } = self;
         Seq::from_vec(items)
-    }
-}
-
-impl<T: Drop> Room<T> {
-    /// Adds `x` last, which needs no memory where there is room. [`Memory`] leaves the items as they
-    /// were.
-    pub fn push(&mut self, x: T) -> Result<(), Memory>
-        ensures ok { OnOk result (self.new.items ≡ self.old.items ++ x ∷ []) }
-        ensures err { OnErr result (self.new.items ≡ self.old.items) }
-        ensures succeeds { 0 < self.old.spare → IsOk result }
-        ensures spare { self.old.spare ≤ self.new.spare + 1 }
-    {
-        self.items.push(x)?;
-        Ok(())
     }
 }
 

@@ -25,7 +25,8 @@ use Rattle.ir_values.specs.declared.value.FuncId.{FuncId}
 use Rattle.ir_values.specs.declared.value.Value.TheVariants as value
 use Rattle.qir_meaning.specs.Effects.{gate, operation}
 use Rattle.qir_meaning.specs.Moves.{move, does, name_text, class_of_function}
-use Rattle.qir_meaning.specs.Naming.{Naming, fixed_naming, named_op, named_event, named_events}
+use Rattle.backend_api.specs.Naming.{Naming, named_op, named_event, named_events}
+use Rattle.qir_meaning.specs.Naming.{fixed_naming}
 use Rattle.qir_meaning.specs.Runs.{Asks}
 use Rattle.qir_meaning.specs.Simulation.{Whole, Tick, On, Off, tick, tick_of, Meets, Follows}
 use Rattle.qir_meaning.specs.State.{Env, State, Move, Next, Back, Halt, Trap, next, one_more}

@@ -35,7 +35,8 @@ use Rattle.ir_values.specs.declared.value.Value.TheVariants as value
 use Rattle.ir_values.specs.Calls.{class_of, rt, qis}
 use Rattle.qir_meaning.specs.Effects.{argument, arguments, declared_call}
 use Rattle.qir_meaning.specs.Moves.{does, performs, calls, with_values, name_text, class_of_function, first_point}
-use Rattle.qir_meaning.specs.Naming.{fixed_naming, named_arg}
+use Rattle.backend_api.specs.Naming.{named_arg}
+use Rattle.qir_meaning.specs.Naming.{fixed_naming}
 use Rattle.qir_meaning.specs.State.{Env, State, Move, Enter, Stuck, value_of, values_of, one_more, frame}
 use Rattle.qir_cli.specs.BaseGates.{qubit_number}
 use Rattle.qir_cli.proofs.Scopes.{AreHeld, Allocated, allocated-value, holds, usable-held, usable-number}

@@ -23,7 +23,8 @@ use Rattle.ir_values.specs.declared.value.Name.TheVariants as name
 use Rattle.ir_values.specs.declared.value.Value.TheVariants as value
 use Rattle.ir_values.specs.Calls.{rt}
 use Rattle.ir_reader.specs.FirstTree.{attr, declaration, zero_code}
-use Rattle.qir_meaning.specs.Naming.{Naming, fixed_naming}
+use Rattle.backend_api.specs.Naming.{Naming}
+use Rattle.qir_meaning.specs.Naming.{fixed_naming}
 use Rattle.qir_cli.specs.BaseGates.{GateCall, main_of, own_qubits, allocations, gates_of, used_gates}
 
 abbrev pub block_id : ℕ → BlockId

@@ -8,7 +8,8 @@ use Rattle.backend_api.specs.declared.operation.Event.{Event}
 use Rattle.ir_module.specs.declared.tree.Module.{Module}
 use Rattle.output_records.specs.declared.record.Record.{Record}
 use Rattle.qir_meaning.specs.Laws.{HasRun}
-use Rattle.qir_meaning.specs.Naming.{Naming, named_events, named_end}
+use Rattle.backend_api.specs.Naming.{Naming, named_events}
+use Rattle.qir_meaning.specs.Naming.{named_end}
 use Rattle.qir_meaning.specs.Runs.{RunEnd, Cut, Runs}
 use Rattle.qir_meaning.specs.Same.{Prefix, SameBehaviour}
 use Rattle.qir_meaning.specs.Simulation.{Whole, Tick, On, Off, tick, run, whole_start, GoesBy, Alike, EndsBy, Meets, Follows, Started, Simulation}

@@ -1,7 +1,7 @@
 -- A relation on whole states that every tick keeps.
 use Rattle.std.proofs.Common.{ℕ, zero, suc, ◌<◌}
 use Rattle.ir_module.specs.declared.tree.Module.{Module}
-use Rattle.qir_meaning.specs.Naming.{Naming}
+use Rattle.backend_api.specs.Naming.{Naming}
 use Rattle.qir_meaning.specs.Simulation.{Whole, Tick, On, Off, tick, Alike, Meets, Follows}
 use Rattle.qir_meaning.specs.Steps.{Ended, Jam}
 

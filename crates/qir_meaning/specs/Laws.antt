@@ -4,7 +4,7 @@ use Rattle.backend_api.specs.declared.operation.Answer.{Answer}
 use Rattle.backend_api.specs.declared.operation.Event.{Event}
 use Rattle.ir_module.specs.declared.tree.Module.{Module}
 use Rattle.output_records.specs.declared.record.Record.{Record}
-use Rattle.qir_meaning.specs.Naming.{Naming}
+use Rattle.backend_api.specs.Naming.{Naming}
 use Rattle.qir_meaning.specs.Runs.{RunEnd, Cut, Runs}
 use Rattle.qir_meaning.specs.Same.{Prefix, SameBehaviour}
 use Rattle.qir_meaning.specs.Simulation.{Simulation}

@@ -4,7 +4,8 @@ use Rattle.backend_api.specs.declared.operation.Answer.{Answer}
 use Rattle.backend_api.specs.declared.operation.Event.{Event}
 use Rattle.ir_module.specs.declared.tree.Module.{Module}
 use Rattle.output_records.specs.declared.record.Record.{Record}
-use Rattle.qir_meaning.specs.Naming.{Naming, named_events, named_end}
+use Rattle.backend_api.specs.Naming.{Naming, named_events}
+use Rattle.qir_meaning.specs.Naming.{named_end}
 use Rattle.qir_meaning.specs.Runs.{RunEnd, Cut, Runs}
 
 -- xs is the beginning of ys, or all of it

@@ -6,7 +6,8 @@ use Rattle.ir_module.specs.declared.tree.Module.{Module}
 use Rattle.ir_values.specs.declared.value.Value.{Value}
 use Rattle.qir_meaning.specs.Entry.{Entry, entry_of}
 use Rattle.qir_meaning.specs.Moves.{move, first_point}
-use Rattle.qir_meaning.specs.Naming.{Naming, named_events, named_end}
+use Rattle.backend_api.specs.Naming.{Naming, named_events}
+use Rattle.qir_meaning.specs.Naming.{named_end}
 use Rattle.qir_meaning.specs.Runs.{RunEnd, end_of, bind_result, start}
 use Rattle.qir_meaning.specs.State.{Env, State, Move, Next, Enter, Back, Halt, Stuck, next, frame}
 use Rattle.qir_meaning.specs.Steps.{Waiting, Outcome, Ended, Jam, returned, exec}

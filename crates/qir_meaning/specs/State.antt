@@ -5,7 +5,7 @@ use Rattle.backend_api.specs.declared.operation.Answer.{Answer}
 use Rattle.backend_api.specs.declared.operation.Event.{Event}
 use Rattle.backend_api.specs.declared.operation.Op.{Op}
 use Rattle.backend_api.specs.declared.operation.ResultRef.{ResultRef}
-use Rattle.backend_api.specs.declared.operation.ResultRef.TheVariants as result
+use Rattle.backend_api.specs.Operations.{same_result}
 use Rattle.ir_module.specs.declared.places.Point.{Point}
 use Rattle.ir_module.specs.declared.tree.Function.{Function}
 use Rattle.ir_module.specs.declared.tree.Operand.{Operand}
@@ -86,12 +86,6 @@ with_allocation st = record st { allocated = st.allocated + 1; held = st.held ++
 
 abbrev pub without : State → ℕ → State
 without st j = record st { held = filter (λ i. not (i == j)) st.held }
-
-abbrev pub same_result : ResultRef → ResultRef → Bool
-same_result (result.Id i) (result.Id j) = i == j
-same_result (result.Id i) (result.Measured j) = false
-same_result (result.Measured i) (result.Id j) = false
-same_result (result.Measured i) (result.Measured j) = i == j
 
 abbrev pub bit_in : List (ResultRef × Bool) → ResultRef → Option Bool
 bit_in [] r = None

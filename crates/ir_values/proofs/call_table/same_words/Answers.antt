@@ -1,4 +1,4 @@
-use Rattle.std.proofs.Common.{◌≡◌, ◌∙◌, rules}
+use Rattle.std.proofs.Common.{◌∙◌, rules}
 use Rattle.ir_values.specs.Equal.{equal_decides}
 use Rattle.ir_values.proofs.WordLemmas.{same_words_is}
 use Rattle.ir_values.proofs.call_table.same_words.Goals as goal

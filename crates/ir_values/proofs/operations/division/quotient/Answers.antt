@@ -1,7 +1,7 @@
-use Rattle.std.proofs.Common.{◌≡◌, ◌^◌, ◌∙◌, arith, rules, int_div, int_rem}
+use Rattle.std.proofs.Common.{◌∙◌, arith, rules, int_div}
 use Rattle.std.specs.Int.{w128}
 use Rattle.std.specs.Int.RustNames.{FitsSigned}
-use Rattle.std.proofs.lemmas.Int.{fits_signed_from_abs, quot_is, rem_is}
+use Rattle.std.proofs.lemmas.Int.{fits_signed_from_abs, quot_is}
 use Rattle.ir_values.proofs.operations.division.quotient.Goals as goal
 
 pub returns : goal.returns

@@ -2,10 +2,12 @@
 ghost use Rattle.std.specs.Prelude.{◌≡◌, true, List, Some, OnOk, IfOk, IfErr};
 ghost use Rattle.backend_api.specs.declared.operation.Answer.TheVariants as answer;
 ghost use Rattle.backend_api.specs.declared.operation.Event.{Event};
+ghost use Rattle.backend_api.specs.declared.backend.Stop.TheVariants as stop;
 ghost use Rattle.backend_api.specs.Backend.{BackendState, Answered, Refused, Keeps};
 ghost use Rattle.backend_api.specs.Operations.{IsGate, IsMeasurement};
 
-use crate::operation::Op;
+use crate::operation::{Event, Op};
+use std::alloc::AllocFailed;
 use thiserror::Error;
 
 /// Why a backend gave no answer.
@@ -31,6 +33,18 @@ pub enum Stop {
 pub struct Turned {
     pub op: Op,
     pub why: Stop,
+}
+
+/// There was no memory to keep the event. Its operation is handed back.
+impl From<AllocFailed<Event>> for Turned {
+    ghost from_gives = { λ failed turned. (turned.op ≡ failed.value.op) × (turned.why ≡ stop.Memory) };
+
+    fn from(failed: AllocFailed<Event>) -> Turned {
+        Turned {
+            op: failed.value.op,
+            why: Stop::Memory,
+        }
+    }
 }
 
 /// What answers the operations of a run: a quantum machine, or what stands for one.

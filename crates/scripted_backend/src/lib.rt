@@ -1,0 +1,8 @@
+//! A backend that answers given bits, for tests and for runs by hand.
+#![tactic(auto)]
+
+mod script;
+#[cfg(test)]
+mod tests;
+
+pub use script::Script;

@@ -1,5 +1,5 @@
 -- What stands at a point of a function: phis first, then instructions, then the terminator.
-use Rattle.std.specs.Prelude.{ℕ, zero, suc, ◌+◌, ◌-◌, List, length, slice_get, Option, None, Some}
+use Rattle.std.specs.Prelude.{ℕ, zero, suc, ◌+◌, ◌-◌, length, slice_get, Option, None, Some}
 use Rattle.ir_module.specs.declared.places.Point.{Point}
 use Rattle.ir_module.specs.declared.tree.Block.{Block}
 use Rattle.ir_module.specs.declared.tree.Function.{Function}

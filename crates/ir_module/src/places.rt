@@ -3,12 +3,13 @@ ghost use Rattle.std.specs.Prelude.{◌≡◌, ◌++◌, ◌∷◌, [], IsSome, 
 ghost use Rattle.std.proofs.Common.{rules};
 ghost use Rattle.ir_module.specs.Places as spec;
 
-use ir_values::{BlockId, Copies, Exact, FuncId, Memory, Seq};
+use indexmap::IndexMap;
+use ir_values::{BlockId, Copies, Exact, FuncId, Memory};
 use std::alloc::Global;
 use std::marker::Model;
 
 /// A phi, an instruction or the terminator of a block. `index` counts them in this order from 0.
-#[derive(Clone, Copy, Debug, PartialEq, Eq, PartialOrd, Ord)]
+#[derive(Clone, Copy, Debug, PartialEq, Eq, PartialOrd, Ord, Hash)]
 pub struct Point {
     pub func: FuncId,
     pub block: BlockId,
@@ -27,7 +28,7 @@ impl Exact for Point {
 
 /// A part of a module that a fault is told at. The order of spots is: the module, then for each
 /// function the function itself and its points.
-#[derive(Clone, Copy, Debug, PartialEq, Eq)]
+#[derive(Clone, Copy, Debug, PartialEq, Eq, Hash)]
 pub enum Spot {
     Module,
     Func(FuncId),
@@ -65,7 +66,7 @@ impl Exact for Place {
 /// spots.
 #[derive(Debug, Drop)]
 pub struct Places {
-    places: Seq<(Spot, Place)>,
+    places: IndexMap<Spot, Place>,
 }
 
 impl Model for Places {
@@ -75,7 +76,7 @@ impl Model for Places {
 
     ghost Value = { List (Spot × Place) };
 
-    ghost view = { λ p. p.places };
+    ghost view = { λ p. p.places.entries };
 }
 
 impl Places {
@@ -84,53 +85,31 @@ impl Places {
         ensures { result ≡ [] }
     {
         Places {
-            places: Seq::new(alloc),
+            places: IndexMap::new(alloc),
         }
     }
 
     /// Adds `p` as the place of `s`, which comes after each spot that was added before. [`Memory`]
     /// leaves the places as they were.
+    #[tactic(auto, using(crate::proofs::Found::added))]
     pub fn push(&mut self, s: Spot, p: Place) -> Result<(), Memory>
         requires { spec.ComesAfter self.old s }
         ensures ok { OnOk result (self.new ≡ self.old ++ (s, p) ∷ []) }
         ensures err { OnErr result (self.new ≡ self.old) }
     {
-        self.places.push((s, p))
+        self.places.insert(s, p)?;
+        Ok(())
     }
 
     /// The place of a spot that was added. It takes no memory.
+    #[tactic(auto, using(crate::proofs::Found::found))]
     pub fn of(&self, s: Spot) -> Place
         requires { IsSome (spec.place_of self.now s) }
         ensures { spec.place_of self.now s ≡ Some result }
     {
-        match find(self.places.as_slice(), s) {
-            Some(place) => place,
+        match self.places.get(&s) {
+            Some(place) => *place,
             None => unreachable!(),
         }
-    }
-}
-
-fn find(mut places: &[(Spot, Place)], s: Spot) -> Option<Place>
-    ensures { result ≡ spec.place_of places.entry.now s }
-{
-    while let [(spot, place), rest @ ..] = places {
-        if is_same(*spot, s) {
-            return Some(*place);
-        }
-        places = rest;
-    }
-    None
-}
-
-fn is_same(a: Spot, b: Spot) -> bool
-    ensures { result ≡ spec.same_spot a b }
-{
-    match (a, b) {
-        (Spot::Module, Spot::Module) => true,
-        (Spot::Func(f), Spot::Func(g)) => f.0 == g.0,
-        (Spot::At(p), Spot::At(q)) => p.func.0 == q.func.0
-            && p.block.0 == q.block.0
-            && p.index == q.index,
-        _ => false,
     }
 }

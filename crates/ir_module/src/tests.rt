@@ -60,16 +60,16 @@ fn places_are_found_by_their_spots(rt: HostRuntime) -> Result<(), Fail> {
         block: BlockId(0),
         index: 3,
     };
-    places.push(Spot::Module, Place { line: 1, column: 1 })?;
-    places.push(
-        Spot::Func(FuncId(0)),
-        Place {
-            line: 4,
-            column: 12,
-        },
-    )?;
-    places.push(Spot::At(point), Place { line: 9, column: 3 })?;
-    assert_eq!(rt; places.of(Spot::At(point)), Place { line: 9, column: 3 });
-    assert_eq!(rt; places.of(Spot::Module), Place { line: 1, column: 1 });
+    let next = Point { index: 4, ..point };
+    let function = Spot::Func(FuncId(0));
+    let place = |line, column| Place { line, column };
+    places.push(Spot::Module, place(1, 1))?;
+    places.push(function, place(4, 12))?;
+    places.push(Spot::At(point), place(9, 3))?;
+    places.push(Spot::At(next), place(10, 3))?;
+    assert_eq!(rt; places.of(Spot::Module), place(1, 1));
+    assert_eq!(rt; places.of(function), place(4, 12));
+    assert_eq!(rt; places.of(Spot::At(point)), place(9, 3));
+    assert_eq!(rt; places.of(Spot::At(next)), place(10, 3));
     Ok(())
 }

@@ -1,4 +1,5 @@
 pub mod Edges
+pub mod Operands
 pub mod Places
 pub mod Steps
 pub mod Tree

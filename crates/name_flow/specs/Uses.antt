@@ -3,18 +3,14 @@ use Rattle.std.specs.Prelude.{List, [], ◌∷◌, ◌++◌, flat_map, Option, N
 use Rattle.std.specs.Option.{option_to_list}
 use Rattle.ir_values.specs.declared.value.BlockId.{BlockId}
 use Rattle.ir_values.specs.declared.value.LocalId.{LocalId}
-use Rattle.ir_values.specs.declared.ty.Ty.{Ty}
 use Rattle.ir_module.specs.declared.tree.Block.{Block}
-use Rattle.ir_module.specs.declared.tree.Callee.{Callee}
-use Rattle.ir_module.specs.declared.tree.Callee.TheVariants as callee
 use Rattle.ir_module.specs.declared.tree.Function.{Function}
 use Rattle.ir_module.specs.declared.tree.InstKind.{InstKind}
-use Rattle.ir_module.specs.declared.tree.InstKind.TheVariants as kind
 use Rattle.ir_module.specs.declared.tree.Operand.{Operand}
 use Rattle.ir_module.specs.declared.tree.Operand.TheVariants as operand
 use Rattle.ir_module.specs.declared.tree.Term.{Term}
-use Rattle.ir_module.specs.declared.tree.Term.TheVariants as term
 use Rattle.ir_module.specs.Edges.{edges}
+use Rattle.ir_module.specs.Operands.{operands_of, term_operands}
 use Rattle.ir_module.specs.Steps.{Step, PhiAt, InstAt, TermAt, NoStep}
 use Rattle.ir_module.specs.Tree.{block_at}
 
@@ -23,29 +19,11 @@ abbrev pub reads : Operand → List LocalId
 reads (operand.Const v) = []
 reads (operand.Local x) = x ∷ []
 
-abbrev pub callee_reads : Callee → List LocalId
-callee_reads (callee.Func f) = []
-callee_reads (callee.Local x) = x ∷ []
-
-abbrev pub args_read : List (Ty × Operand) → List LocalId
-args_read [] = []
-args_read (a ∷ args) = reads a.1 ++ args_read args
-
--- LLVM Language Reference, 'Instruction Reference'
 abbrev pub inst_reads : InstKind → List LocalId
-inst_reads (kind.Binary op flags t a b) = reads a ++ reads b
-inst_reads (kind.Icmp p t a b) = reads a ++ reads b
-inst_reads (kind.Convert c t a to) = reads a
-inst_reads (kind.Select c t a u b) = reads c ++ reads a ++ reads b
-inst_reads (kind.Call t f args) = callee_reads f ++ args_read args
+inst_reads what = flat_map reads (operands_of what)
 
--- LLVM Language Reference, 'Terminator Instructions'
 abbrev pub term_reads : Term → List LocalId
-term_reads term.RetVoid = []
-term_reads (term.Ret t a) = reads a
-term_reads (term.Br b) = []
-term_reads (term.CondBr c t e) = reads c
-term_reads (term.Switch t a default cases) = reads a
+term_reads t = flat_map reads (term_operands t)
 
 -- the names that a phi with these entries reads where the edge comes from the block p
 abbrev pub entries_read : BlockId → List (Operand × BlockId) → List LocalId

@@ -1,7 +1,8 @@
 //! The uses and the definitions of local names in a function, and its edges.
-ghost use Rattle.std.specs.Prelude.{◌≡◌, ◌+◌, ◌^◌, ◌<◌, ◌++◌, length, slice_get, OnOk, option_copied};
+ghost use Rattle.std.specs.Prelude.{◌≡◌, ◌+◌, ◌^◌, ◌<◌, ◌++◌, length, slice_get, OnOk, option_copied, flat_map, map};
+ghost use Rattle.ir_module.specs.Operands.{callee_operand};
 ghost use Rattle.name_flow.specs.Marks as spec;
-ghost use Rattle.name_flow.specs.Uses.{reads, callee_reads, args_read, inst_reads, term_reads};
+ghost use Rattle.name_flow.specs.Uses.{reads, inst_reads, term_reads};
 
 use crate::triples::Triples;
 use ir_module::{Block, Callee, Edges, Inst, InstKind, Operand, Phi, Term, successors};
@@ -20,7 +21,7 @@ fn push_operand(marks: &mut Marks, b: u64, i: u64, a: &Operand) -> Result<(), Me
 }
 
 fn push_callee(marks: &mut Marks, b: u64, i: u64, callee: &Callee) -> Result<(), Memory>
-    ensures { OnOk result (marks.new ≡ marks.old ++ spec.marks b i (callee_reads callee.now)) }
+    ensures { OnOk result (marks.new ≡ marks.old ++ spec.marks b i (reads (callee_operand callee.now))) }
 {
     match callee {
         Callee::Func(_) => Ok(()),
@@ -29,7 +30,7 @@ fn push_callee(marks: &mut Marks, b: u64, i: u64, callee: &Callee) -> Result<(),
 }
 
 fn push_args(marks: &mut Marks, b: u64, i: u64, mut args: &[(Ty, Operand)]) -> Result<(), Memory>
-    ensures { OnOk result (marks.new ≡ marks.old ++ spec.marks b i (args_read args.entry.now)) }
+    ensures { OnOk result (marks.new ≡ marks.old ++ spec.marks b i (flat_map reads (map (λ a. a.1) args.entry.now))) }
 {
     while let [(_, a), rest @ ..] = args {
         push_operand(marks, b, i, a)?;

@@ -32,7 +32,8 @@ use Rattle.ir_values.specs.declared.value.Value.TheVariants as value
 use Rattle.ir_values.specs.Int.{IntValue}
 use Rattle.output_records.specs.declared.record.Shown.{Shown}
 use Rattle.qir_meaning.specs.Effects.{argument, arguments, reading, label_of, goes_on, releases, gate, measure, recorded, declared_call, operation, first_result, is_one}
-use Rattle.qir_meaning.specs.Moves.{with_value, with_values, with_int, move, step_move, does, performs, calls, ends, jump, phis_take, block_in, target_of, class_of_function, name_text, first_point, operands_of}
+use Rattle.ir_module.specs.Operands.{operands_of}
+use Rattle.qir_meaning.specs.Moves.{with_value, with_values, with_int, move, step_move, does, performs, calls, ends, jump, phis_take, block_in, target_of, class_of_function, name_text, first_point}
 use Rattle.qir_meaning.specs.Runs.{RunEnd, Returned, Trapped, Asks, Cut, end_of}
 use Rattle.qir_meaning.specs.Same.{Prefix}
 use Rattle.qir_meaning.specs.Simulation.{Whole, Tick, On, Off, gives_back, tick_of, tick, run}

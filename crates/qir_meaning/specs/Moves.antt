@@ -2,17 +2,15 @@
 use Rattle.std.specs.Prelude.{ℕ, ◌==◌, if◌then◌else◌, Option, None, Some, List, [], ◌∷◌, length, map, take, slice_get, slice_set}
 use Rattle.ir_module.specs.declared.places.Point.{Point}
 use Rattle.ir_module.specs.declared.tree.Block.{Block}
-use Rattle.ir_module.specs.declared.tree.Callee.{Callee}
-use Rattle.ir_module.specs.declared.tree.Callee.TheVariants as callee
 use Rattle.ir_module.specs.declared.tree.Function.{Function}
 use Rattle.ir_module.specs.declared.tree.InstKind.{InstKind}
 use Rattle.ir_module.specs.declared.tree.InstKind.TheVariants as kind
 use Rattle.ir_module.specs.declared.tree.Module.{Module}
 use Rattle.ir_module.specs.declared.tree.Operand.{Operand}
-use Rattle.ir_module.specs.declared.tree.Operand.TheVariants as operand
 use Rattle.ir_module.specs.declared.tree.Phi.{Phi}
 use Rattle.ir_module.specs.declared.tree.Term.{Term}
 use Rattle.ir_module.specs.declared.tree.Term.TheVariants as term
+use Rattle.ir_module.specs.Operands.{operands_of}
 use Rattle.ir_module.specs.Steps.{Step, PhiAt, InstAt, TermAt, NoStep, step_in_module}
 use Rattle.ir_module.specs.Tree.{block_at}
 use Rattle.ir_values.specs.declared.sig.TyWord.{TyWord}
@@ -44,18 +42,6 @@ with_value (Some v) st go = go v
 abbrev pub with_values : Option (List Value) → State → (List Value → Move) → Move
 with_values None st go = Halt (Trap cause.Unbound) st
 with_values (Some vs) st go = go vs
-
--- what an instruction reads before anything else that it does; a call reads its callee first
-abbrev pub callee_operand : Callee → Operand
-callee_operand (callee.Func f) = operand.Const (value.Func f)
-callee_operand (callee.Local x) = operand.Local x
-
-abbrev pub operands_of : InstKind → List Operand
-operands_of (kind.Binary op flags t a b) = a ∷ b ∷ []
-operands_of (kind.Icmp p t a b) = a ∷ b ∷ []
-operands_of (kind.Convert c t a to) = a ∷ []
-operands_of (kind.Select c t a u b) = c ∷ a ∷ b ∷ []
-operands_of (kind.Call ret f args) = callee_operand f ∷ map (λ a. a.1) args
 
 abbrev pub name_text : Name → List ℕ
 name_text (name.Text bytes) = bytes

@@ -21,7 +21,8 @@ pub record Parses (bytes : List ℕ) (parsed : Parsed) : Type 0 where
   pub spelled : bytes ≡ text_of program
   pub tree : IsTreeOf program parsed
 
--- a refusal stands at the head of bytes that are no text of one block; want of memory says nothing
-abbrev pub IsRightly : List ℕ → ReadStop → Type 0
-IsRightly bytes (stop.Refused code at) = (code ≡ FirstPath) × (at ≡ place 1 1) × ((m : Module) → ¬ First m bytes)
-IsRightly bytes stop.Memory = Unit {0}
+-- how a reader of the bytes may stop: it refuses, at their head, bytes that are no text of one block; want
+-- of memory says nothing of them
+abbrev pub MayStopWith : List ℕ → ReadStop → Type 0
+MayStopWith bytes (stop.Refused code at) = (code ≡ FirstPath) × (at ≡ place 1 1) × ((m : Module) → ¬ First m bytes)
+MayStopWith bytes stop.Memory = Unit {0}

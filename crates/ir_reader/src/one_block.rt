@@ -1,7 +1,7 @@
 //! The texts of one block.
 ghost use Rattle.std.specs.Prelude.{◌≡◌, ◌<◌, length, MatchResult, IfErr, IfOk};
 ghost use Rattle.ir_reader.specs.FirstText.{Program, IsProgram, text_of};
-ghost use Rattle.ir_reader.specs.Parses.{Parses, IsTreeOf, IsRightly};
+ghost use Rattle.ir_reader.specs.Parses.{Parses, IsTreeOf, MayStopWith};
 
 use crate::body::instructions;
 use crate::parsed::{Parsed, ReadCode, ReadStop};
@@ -34,7 +34,7 @@ pub fn read(alloc: Global, bytes: &[u8]) -> Result<Parsed, ReadStop>
     requires { length bytes.now < 4294967295 }
     ensures parsed { IfOk result (λ parsed. Parses bytes.now parsed) }
     ensures complete { (p : Program) → IsProgram p → bytes.now ≡ text_of p → MatchResult result (λ parsed. IsTreeOf p parsed) (λ stop. stop ≡ ReadStop.Memory) }
-    ensures refused { IfErr result (λ stop. IsRightly bytes.now stop) }
+    ensures refused { IfErr result (λ stop. MayStopWith bytes.now stop) }
 {
     match parse(alloc, bytes) {
         Ok(parsed) => Ok(parsed),

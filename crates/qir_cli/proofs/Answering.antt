@@ -7,7 +7,7 @@ use Rattle.ir_reader.specs.declared.parsed.Parsed.{Parsed}
 use Rattle.ir_reader.specs.declared.parsed.ReadCode.{ReadCode}
 use Rattle.ir_reader.specs.declared.parsed.ReadStop.TheVariants as stop
 use Rattle.ir_reader.specs.FirstText.{Program, IsProgram, text_of}
-use Rattle.ir_reader.specs.Parses.{Parses, IsTreeOf, IsRightly}
+use Rattle.ir_reader.specs.Parses.{Parses, IsTreeOf, MayStopWith}
 use Rattle.ir_values.specs.declared.memory.Memory.{Memory}
 use Rattle.qir_meaning.specs.Same.{SameBehaviour}
 use Rattle.qir_cli.specs.declared.reply.Reply.{Reply}
@@ -54,7 +54,7 @@ other-line : refusal_line (codes "read") (decimal 13) 1 1 (codes "FirstPath") �
 unfolding digits
 other-line = refl
 
-pub answered-refused : (budget : ℕ) (bytes : List ℕ) (code : ReadCode) (at : Place) → length bytes ≤ limit → IsRightly bytes (stop.Refused code at)
+pub answered-refused : (budget : ℕ) (bytes : List ℕ) (code : ReadCode) (at : Place) → length bytes ≤ limit → MayStopWith bytes (stop.Refused code at)
     → (r : Result Reply Memory) → IfOk r (λ r. r.status ≡ Refused)
     → IfOk r (λ r. r.text ≡ refusal_line (codes "read") (decimal 13) at.line at.column (codes "FirstPath"))
     → IfOk r (λ r. LowerAnswer budget bytes r.status r.text)

@@ -34,10 +34,10 @@ use Rattle.ir_values.specs.declared.value.Value.{Value}
 use Rattle.ir_values.specs.declared.value.Value.TheVariants as value
 use Rattle.ir_values.specs.Calls.{class_of, rt, qis}
 use Rattle.qir_meaning.specs.Effects.{argument, arguments, declared_call}
-use Rattle.qir_meaning.specs.Moves.{does, performs, calls, with_values, name_text, class_of_function, first_point}
+use Rattle.qir_meaning.specs.Moves.{does, performs, declared, with_body, calls, with_values, name_text, class_of_function}
 use Rattle.backend_api.specs.Naming.{named_arg}
 use Rattle.qir_meaning.specs.Naming.{fixed_naming}
-use Rattle.qir_meaning.specs.State.{Env, State, Move, Enter, Stuck, value_of, values_of, one_more, frame}
+use Rattle.qir_meaning.specs.State.{Env, State, Move, value_of, values_of, one_more}
 use Rattle.qir_cli.specs.BaseGates.{qubit_number}
 use Rattle.qir_cli.proofs.Scopes.{AreHeld, Allocated, allocated-value, holds, usable-held, usable-number}
 
@@ -97,21 +97,13 @@ module _ {A : Type 0} where
 
 -- a call of a declared function
 module _ (m : Module) (p : Point) (env : Env) (st : State) (x : Option LocalId) (ret : Ty) (g : FuncId) (args : List (Ty × Operand)) where
-  abbrev declared : Function → Option Class → List Ty → List Value → Move
-  declared f None ts vs = Stuck
-  declared f (Some c) ts vs = declared_call p env x st (name_text f.name) ts c vs
-
-  abbrev with_body : Function → Option (List Block) → List Ty → List Value → Move
-  with_body f None ts vs = declared f (class_of_function f) ts vs
-  with_body f (Some blocks) ts vs = Enter (first_point g) (frame f vs) x st
-
   pub declared-move : (f : Function) (c : Class) (vs : List Value) → slice_get m.funcs g.0 ≡ Some f → f.blocks ≡ None → class_of_function f ≡ Some c → values_of env (map (λ a. a.1) args) ≡ Some vs → does m p env st x (kind.Call ret (callee.Func g) args) ≡ declared_call p env x st (name_text f.name) (map (λ a. a.0) args) c vs
   declared-move f c vs hf hb hc hv =
       let ts : List Ty = map (λ a. a.0) args in
       ap (λ o. with_values (one_more (Some (value.Func g)) o) st (performs m p env st x (kind.Call ret (callee.Func g) args))) hv
       ∙ ap (λ o. calls m p env st x g o ts vs) hf
-      ∙ ap (λ o. with_body f o ts vs) hb
-      ∙ ap (λ o. declared f o ts vs) hc
+      ∙ ap (λ o. with_body m p env st x g f o ts vs) hb
+      ∙ ap (λ o. declared m p env st x f o ts vs) hc
 
 -- the declarations that are called
 abbrev pub initialize : Function

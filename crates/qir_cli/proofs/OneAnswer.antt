@@ -1,9 +1,9 @@
 -- A command has one answer.
-use Rattle.std.proofs.Common.{◌≡◌, ℕ, ◌<◌, ◌≤◌, List, refl, ap, sym, subst, arith}
+use Rattle.std.proofs.Common.{◌≡◌, ℕ, ◌<◌, ◌≤◌, List, refl, ap, sym, arith}
 use Rattle.ir_module.specs.declared.tree.Module.{Module}
 use Rattle.qir_cli.specs.declared.command.Command.TheVariants.{LowerBase}
 use Rattle.qir_cli.specs.declared.status.Status.{Status}
-use Rattle.qir_cli.specs.Answers.{instructions, ReadsAs, LowerAnswer, too_long, other_text, over_budget, lowered}
+use Rattle.qir_cli.specs.Answers.{instructions, LowerAnswer, too_long, other_text, over_budget, lowered}
 use Rattle.qir_cli.specs.BaseText.{base_text}
 use Rattle.qir_cli.specs.Laws.{AnswersAreOne}
 

@@ -1,6 +1,6 @@
 -- Events and records only grow, and a run that is over stays so.
 use Rattle.std.proofs.Common.{◌≡◌, ℕ, zero, suc, ◌≤◌, Bool, true, false, Option, None, Some, List, [], ◌∷◌, ◌++◌, refl, sym, ap, ◌∙◌, subst, arith, append_assoc, append-nil}
-use Rattle.std.specs.Prelude.{if◌then◌else◌, length, slice_get}
+use Rattle.std.specs.Prelude.{if◌then◌else◌, slice_get}
 use Rattle.backend_api.specs.declared.operation.Answer.{Answer}
 use Rattle.backend_api.specs.declared.operation.Answer.TheVariants as answer
 use Rattle.backend_api.specs.declared.operation.Arg.{Arg}
@@ -21,7 +21,6 @@ use Rattle.ir_module.specs.Steps.{Step, PhiAt, InstAt, TermAt, NoStep, step_in_m
 use Rattle.ir_values.specs.declared.ty.Ty.{Ty}
 use Rattle.ir_values.specs.declared.ty.Ty.TheVariants as ty
 use Rattle.ir_values.specs.declared.value.BlockId.{BlockId}
-use Rattle.ir_values.specs.declared.value.Cause.TheVariants as cause
 use Rattle.ir_values.specs.declared.value.Class.{Class}
 use Rattle.ir_values.specs.declared.value.Class.TheVariants as class
 use Rattle.ir_values.specs.declared.value.FuncId.{FuncId}
@@ -31,13 +30,13 @@ use Rattle.ir_values.specs.declared.value.Value.{Value}
 use Rattle.ir_values.specs.declared.value.Value.TheVariants as value
 use Rattle.ir_values.specs.Int.{IntValue}
 use Rattle.output_records.specs.declared.record.Shown.{Shown}
-use Rattle.qir_meaning.specs.Effects.{argument, arguments, reading, label_of, goes_on, releases, gate, measure, recorded, declared_call, operation, first_result, is_one}
+use Rattle.qir_meaning.specs.Effects.{argument, arguments, known_bit, reading, label_of, releases, gate, measure, measure_into, recorded, declared_call, operation, first_result, is_one}
 use Rattle.ir_module.specs.Operands.{operands_of}
-use Rattle.qir_meaning.specs.Moves.{with_value, with_values, with_int, move, step_move, does, performs, calls, ends, jump, phis_take, block_in, target_of, class_of_function, name_text, first_point}
+use Rattle.qir_meaning.specs.Moves.{with_value, with_values, with_int, move, step_move, does, performs, declared, with_body, calls, ends, arrives, leads_to, jump, phis_take, block_in, target_of, class_of_function, name_text}
 use Rattle.qir_meaning.specs.Runs.{RunEnd, Returned, Trapped, Asks, Cut, end_of}
 use Rattle.qir_meaning.specs.Same.{Prefix}
 use Rattle.qir_meaning.specs.Simulation.{Whole, Tick, On, Off, gives_back, tick_of, tick, run}
-use Rattle.qir_meaning.specs.State.{Env, State, Stop, Trap, Ask, Move, Next, Enter, Back, Halt, Stuck, value_of, values_of, frame, is_held, bit_of, with_event, with_bit}
+use Rattle.qir_meaning.specs.State.{Env, State, Stop, Trap, Ask, Move, Next, Enter, Back, Halt, Stuck, value_of, values_of, is_held, bit_of, with_event, with_bit}
 use Rattle.qir_meaning.specs.Steps.{Waiting, Outcome, Ended, Jam, returned, resume, turn, exec}
 
 pub prefix-refl : {A : Type 0} (xs : List A) → Prefix xs xs
@@ -107,11 +106,7 @@ module _ (st : State) where
   by-arguments [] (v ∷ vs) go k = tt
   by-arguments (t ∷ ts) [] go k = tt
 
-  abbrev known : Option Bool → (Bool → Move) → Move
-  known None go = Halt (Trap cause.ReadUnset) st
-  known (Some b) go = go b
-
-  by-known : (o : Option Bool) (go : Bool → Move) → ((b : Bool) → MoveGrows st (go b)) → MoveGrows st (known o go)
+  by-known : (o : Option Bool) (go : Bool → Move) → ((b : Bool) → MoveGrows st (go b)) → MoveGrows st (known_bit st o go)
   by-known None go k = grows-refl st
   by-known (Some b) go k = k b
 
@@ -146,11 +141,7 @@ module _ (st : State) where
     by-releases (value.Alloc j) = if-held (is_held st j) _ _ (grows-refl st) (grows-refl st)
     by-releases v = tt
 
-    abbrev into : List ℕ → List Arg → Option ResultRef → Move
-    into name args None = Stuck
-    into name args (Some r) = measure p env x st (operation name args) r st.answers (goes_on p env x st)
-
-    by-into : (name : List ℕ) (args : List Arg) (o : Option ResultRef) → MoveGrows st (into name args o)
+    by-into : (name : List ℕ) (args : List Arg) (o : Option ResultRef) → MoveGrows st (measure_into p env x st name args o)
     by-into name args None = tt
     by-into name args (Some r) = by-measure (operation name args) r st.answers _ (λ st' h. h)
 
@@ -178,19 +169,11 @@ module _ (st : State) where
     by-declared name ts c vs = tt
 
     module _ (m : Module) where
-      abbrev declared : Function → Option Class → List Ty → List Value → Move
-      declared f None ts vs = Stuck
-      declared f (Some c) ts vs = declared_call p env x st (name_text f.name) ts c vs
-
-      by-class : (f : Function) (c : Option Class) (ts : List Ty) (vs : List Value) → MoveGrows st (declared f c ts vs)
+      by-class : (f : Function) (c : Option Class) (ts : List Ty) (vs : List Value) → MoveGrows st (declared m p env st x f c ts vs)
       by-class f None ts vs = tt
       by-class f (Some c) ts vs = by-declared (name_text f.name) ts c vs
 
-      abbrev with_body : FuncId → Function → Option (List Block) → List Ty → List Value → Move
-      with_body g f None ts vs = declared f (class_of_function f) ts vs
-      with_body g f (Some blocks) ts vs = Enter (first_point g) (frame f vs) x st
-
-      by-body : (g : FuncId) (f : Function) (o : Option (List Block)) (ts : List Ty) (vs : List Value) → MoveGrows st (with_body g f o ts vs)
+      by-body : (g : FuncId) (f : Function) (o : Option (List Block)) (ts : List Ty) (vs : List Value) → MoveGrows st (with_body m p env st x g f o ts vs)
       by-body g f None ts vs = by-class f (class_of_function f) ts vs
       by-body g f (Some blocks) ts vs = grows-refl st
 
@@ -207,19 +190,11 @@ module _ (st : State) where
       by-does what = by-values (values_of env (operands_of what)) _ (λ vs. by-performs what vs)
 
   module _ (m : Module) (p : Point) (env : Env) where
-    abbrev arrives : BlockId → Block → Option Env → Move
-    arrives b to None = Stuck
-    arrives b to (Some env') = Next (record { func = p.func; block = b; index = length to.phis }) env' st
-
-    by-arrives : (b : BlockId) (to : Block) (o : Option Env) → MoveGrows st (arrives b to o)
+    by-arrives : (b : BlockId) (to : Block) (o : Option Env) → MoveGrows st (arrives m p env st b to o)
     by-arrives b to None = tt
     by-arrives b to (Some env') = grows-refl st
 
-    abbrev leads_to : BlockId → Option Block → Move
-    leads_to b None = Stuck
-    leads_to b (Some to) = arrives b to (phis_take to.phis p.block env env)
-
-    by-leads : (b : BlockId) (o : Option Block) → MoveGrows st (leads_to b o)
+    by-leads : (b : BlockId) (o : Option Block) → MoveGrows st (leads_to m p env st b o)
     by-leads b None = tt
     by-leads b (Some to) = by-arrives b to (phis_take to.phis p.block env env)
 

@@ -66,7 +66,7 @@ arguments st [] (v ∷ vs) go = Stuck
 arguments st (t ∷ ts) [] go = Stuck
 
 -- a result that is read must have a bit; one and zero have theirs from the start
-abbrev known_bit : State → Option Bool → (Bool → Move) → Move
+abbrev pub known_bit : State → Option Bool → (Bool → Move) → Move
 known_bit st None go = Halt (Trap cause.ReadUnset) st
 known_bit st (Some b) go = go b
 
@@ -108,7 +108,7 @@ module _ (p : Point) (env : Env) (x : Option LocalId) (st : State) where
   measure op r (answer.Done ∷ rest) go = Halt (Ask op) st
   measure op r (answer.Bit b ∷ rest) go = go (with_bit (with_event st op (answer.Bit b) rest) r b)
 
-  abbrev measure_into : List ℕ → List Arg → Option ResultRef → Move
+  abbrev pub measure_into : List ℕ → List Arg → Option ResultRef → Move
   measure_into name args None = Stuck
   measure_into name args (Some r) = measure (operation name args) r st.answers goes_on
 

@@ -59,11 +59,11 @@ abbrev pub first_point : FuncId → Point
 first_point f = record { func = f; block = record { 0 = 0 }; index = 0 }
 
 module _ (m : Module) (p : Point) (env : Env) (st : State) where
-  abbrev declared : Option LocalId → Function → Option Class → List Ty → List Value → Move
+  abbrev pub declared : Option LocalId → Function → Option Class → List Ty → List Value → Move
   declared x f None ts vs = Stuck
   declared x f (Some c) ts vs = declared_call p env x st (name_text f.name) ts c vs
 
-  abbrev with_body : Option LocalId → FuncId → Function → Option (List Block) → List Ty → List Value → Move
+  abbrev pub with_body : Option LocalId → FuncId → Function → Option (List Block) → List Ty → List Value → Move
   with_body x g f None ts vs = declared x f (class_of_function f) ts vs
   with_body x g f (Some blocks) ts vs = Enter (first_point g) (frame f vs) x st
 
@@ -104,11 +104,11 @@ with_int (value.Int i) go = go i
 with_int v go = Stuck
 
 module _ (m : Module) (p : Point) (env : Env) (st : State) where
-  abbrev arrives : BlockId → Block → Option Env → Move
+  abbrev pub arrives : BlockId → Block → Option Env → Move
   arrives b to None = Stuck
   arrives b to (Some env') = Next (record { func = p.func; block = b; index = length to.phis }) env' st
 
-  abbrev leads_to : BlockId → Option Block → Move
+  abbrev pub leads_to : BlockId → Option Block → Move
   leads_to b None = Stuck
   leads_to b (Some to) = arrives b to (phis_take to.phis p.block env env)
 

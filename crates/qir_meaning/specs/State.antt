@@ -1,5 +1,5 @@
 -- What a run keeps, and how one instruction changes it.
-use Rattle.std.specs.Prelude.{ℕ, ◌+◌, ◌==◌, ◌-◌, not, Bool, false, if◌then◌else◌, Option, None, Some, List, [], ◌∷◌, ◌++◌, length, map, filter, replicate, slice_get, slice_set}
+use Rattle.std.specs.Prelude.{ℕ, ◌+◌, ◌==◌, ◌-◌, not, Bool, if◌then◌else◌, Option, None, Some, List, [], ◌∷◌, ◌++◌, length, map, filter, replicate, slice_get, slice_set}
 use Rattle.std.specs.List.{list_any}
 use Rattle.backend_api.specs.declared.operation.Answer.{Answer}
 use Rattle.backend_api.specs.declared.operation.Event.{Event}

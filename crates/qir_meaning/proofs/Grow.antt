@@ -1,5 +1,5 @@
 -- Events and records only grow, and a run that is over stays so.
-use Rattle.std.proofs.Common.{◌≡◌, ℕ, zero, suc, ◌≤◌, Bool, true, false, Option, None, Some, List, [], ◌∷◌, ◌++◌, refl, sym, ap, ◌∙◌, subst, arith, append_assoc, append-nil}
+use Rattle.std.proofs.Common.{◌≡◌, ℕ, zero, suc, ◌≤◌, Bool, true, false, Option, None, Some, List, [], ◌∷◌, ◌++◌, refl, sym, ap, ◌∙◌, subst, arith, append_assoc, append-nil, Result, Ok, Err}
 use Rattle.std.specs.Prelude.{if◌then◌else◌, slice_get}
 use Rattle.backend_api.specs.declared.operation.Answer.{Answer}
 use Rattle.backend_api.specs.declared.operation.Answer.TheVariants as answer
@@ -21,6 +21,7 @@ use Rattle.ir_module.specs.Steps.{Step, PhiAt, InstAt, TermAt, NoStep, step_in_m
 use Rattle.ir_values.specs.declared.ty.Ty.{Ty}
 use Rattle.ir_values.specs.declared.ty.Ty.TheVariants as ty
 use Rattle.ir_values.specs.declared.value.BlockId.{BlockId}
+use Rattle.ir_values.specs.declared.value.Cause.{Cause}
 use Rattle.ir_values.specs.declared.value.Class.{Class}
 use Rattle.ir_values.specs.declared.value.Class.TheVariants as class
 use Rattle.ir_values.specs.declared.value.FuncId.{FuncId}
@@ -28,11 +29,12 @@ use Rattle.ir_values.specs.declared.value.GlobalId.{GlobalId}
 use Rattle.ir_values.specs.declared.value.LocalId.{LocalId}
 use Rattle.ir_values.specs.declared.value.Value.{Value}
 use Rattle.ir_values.specs.declared.value.Value.TheVariants as value
+use Rattle.ir_values.specs.Arithmetic.{binary_of}
 use Rattle.ir_values.specs.Int.{IntValue}
 use Rattle.output_records.specs.declared.record.Shown.{Shown}
 use Rattle.qir_meaning.specs.Effects.{argument, arguments, known_bit, reading, label_of, releases, gate, measure, measure_into, recorded, declared_call, operation, first_result, is_one}
 use Rattle.ir_module.specs.Operands.{operands_of}
-use Rattle.qir_meaning.specs.Moves.{with_value, with_values, with_int, move, step_move, does, performs, declared, with_body, calls, ends, arrives, leads_to, jump, phis_take, block_in, target_of, class_of_function, name_text}
+use Rattle.qir_meaning.specs.Moves.{with_value, with_values, with_int, move, step_move, does, computes, performs, declared, with_body, calls, ends, arrives, leads_to, jump, phis_take, block_in, target_of, class_of_function, name_text}
 use Rattle.qir_meaning.specs.Runs.{RunEnd, Returned, Trapped, Asks, Cut, end_of}
 use Rattle.qir_meaning.specs.Same.{Prefix}
 use Rattle.qir_meaning.specs.Simulation.{Whole, Tick, On, Off, gives_back, tick_of, tick, run}
@@ -181,7 +183,14 @@ module _ (st : State) where
       by-calls g None ts vs = tt
       by-calls g (Some f) ts vs = by-body g f f.blocks ts vs
 
+      by-computes : (r : Result IntValue Cause) → MoveGrows st (computes m p env st x r)
+      by-computes (Ok i) = grows-refl st
+      by-computes (Err why) = grows-refl st
+
       by-performs : (what : InstKind) (vs : List Value) → MoveGrows st (performs m p env st x what vs)
+      by-performs (kind.Binary op flags t a b) (value.Int i ∷ value.Int j ∷ []) = by-computes (binary_of op flags i j)
+      by-performs (kind.Icmp pred t a b) (value.Int i ∷ value.Int j ∷ []) = grows-refl st
+      by-performs (kind.Convert conv t a (ty.Int w)) (value.Int i ∷ []) = grows-refl st
       by-performs (kind.Select c t a u b) (value.Int i ∷ v ∷ w ∷ []) = grows-refl st
       by-performs (kind.Call ret f args) (value.Func g ∷ vs) = by-calls g (slice_get m.funcs g.0) _ vs
       by-performs what vs = tt

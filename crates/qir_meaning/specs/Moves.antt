@@ -1,5 +1,5 @@
 -- What one instruction does, by one case for each kind (LLVM Language Reference, 'Instruction Reference').
-use Rattle.std.specs.Prelude.{ℕ, ◌==◌, if◌then◌else◌, Option, None, Some, List, [], ◌∷◌, length, map, take, slice_get, slice_set}
+use Rattle.std.specs.Prelude.{ℕ, ◌==◌, if◌then◌else◌, Option, None, Some, List, [], ◌∷◌, length, map, take, slice_get, slice_set, Result, Ok, Err}
 use Rattle.ir_module.specs.declared.places.Point.{Point}
 use Rattle.ir_module.specs.declared.tree.Block.{Block}
 use Rattle.ir_module.specs.declared.tree.Function.{Function}
@@ -15,7 +15,9 @@ use Rattle.ir_module.specs.Steps.{Step, PhiAt, InstAt, TermAt, NoStep, step_in_m
 use Rattle.ir_module.specs.Tree.{block_at}
 use Rattle.ir_values.specs.declared.sig.TyWord.{TyWord}
 use Rattle.ir_values.specs.declared.ty.Ty.{Ty}
+use Rattle.ir_values.specs.declared.ty.Ty.TheVariants as ty
 use Rattle.ir_values.specs.declared.value.BlockId.{BlockId}
+use Rattle.ir_values.specs.declared.value.Cause.{Cause}
 use Rattle.ir_values.specs.declared.value.Cause.TheVariants as cause
 use Rattle.ir_values.specs.declared.value.Class.{Class}
 use Rattle.ir_values.specs.declared.value.FuncId.{FuncId}
@@ -24,10 +26,11 @@ use Rattle.ir_values.specs.declared.value.Name.{Name}
 use Rattle.ir_values.specs.declared.value.Name.TheVariants as name
 use Rattle.ir_values.specs.declared.value.Value.{Value}
 use Rattle.ir_values.specs.declared.value.Value.TheVariants as value
+use Rattle.ir_values.specs.Arithmetic.{binary_of, compare_of, convert_of}
 use Rattle.ir_values.specs.Calls.{class_of}
 use Rattle.ir_values.specs.Int.{IntValue}
 use Rattle.ir_values.specs.Types.{signature}
-use Rattle.qir_meaning.specs.Effects.{declared_call, gives, is_one}
+use Rattle.qir_meaning.specs.Effects.{bit_value, declared_call, gives, is_one}
 use Rattle.qir_meaning.specs.State.{Env, State, Trap, Move, Next, Enter, Back, Halt, Stuck, value_of, values_of, frame}
 
 abbrev pub given : {A B : Type 0} → Option A → (A → Option B) → Option B
@@ -72,8 +75,17 @@ module _ (m : Module) (p : Point) (env : Env) (st : State) where
   calls x g None ts vs = Stuck
   calls x g (Some f) ts vs = with_body x g f f.blocks ts vs
 
-  -- an instruction whose result is named x, by the values of its operands
+  -- the result of an operation on integers, or the cause for which it traps
+  abbrev pub computes : Option LocalId → Result IntValue Cause → Move
+  computes x (Ok i) = gives p env x st (value.Int i) st
+  computes x (Err why) = Halt (Trap why) st
+
+  -- an instruction whose result is named x, by the values of its operands and their widths; a conversion leads
+  -- to its second type
   abbrev pub performs : Option LocalId → InstKind → List Value → Move
+  performs x (kind.Binary op flags t a b) (value.Int i ∷ value.Int j ∷ []) = computes x (binary_of op flags i j)
+  performs x (kind.Icmp pred t a b) (value.Int i ∷ value.Int j ∷ []) = gives p env x st (bit_value (compare_of pred i j)) st
+  performs x (kind.Convert conv t a (ty.Int w)) (value.Int i ∷ []) = gives p env x st (value.Int (convert_of conv i w)) st
   performs x (kind.Select c t a u b) (value.Int i ∷ v ∷ w ∷ []) = gives p env x st (if is_one i then v else w) st
   performs x (kind.Call ret f args) (value.Func g ∷ vs) = calls x g (slice_get m.funcs g.0) (map (λ a. a.0) args) vs
   performs x what vs = Stuck

@@ -1,3 +1,5 @@
 pub mod Histories
 pub mod Names
+pub mod Renaming
+pub mod Shapes
 pub mod Writes

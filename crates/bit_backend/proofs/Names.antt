@@ -1,12 +1,12 @@
 -- Which names an instruction can have.
-use Rattle.std.proofs.Common.{◌≡◌, ◌≢◌, ℕ, Bool, true, false, ◌||◌, if◌then◌else◌, List, [], ◌∷◌, ◌++◌, Option, None, Some, MatchOption, Bor, codes, refl, ap, sym, ◌∙◌}
+use Rattle.std.proofs.Common.{◌≡◌, ◌≢◌, ℕ, Bool, true, false, ◌||◌, if◌then◌else◌, List, ◌++◌, Option, None, Some, MatchOption, Bor, codes, refl, ap, sym, ◌∙◌}
 use Rattle.std.proofs.lemmas.List.{append_cancel_left}
 use Rattle.std.proofs.lemmas.Slice.Eq.{bytes_eq-Decides}
 use Rattle.backend_api.specs.declared.operation.Arg.{Arg}
-use Rattle.backend_api.specs.declared.operation.Arg.TheVariants as arg
 use Rattle.backend_api.specs.Operations.{same_qubit}
 use Rattle.bit_backend.specs.declared.action.Action.{Action}
-use Rattle.bit_backend.specs.Actions.{named, is_named, on_args}
+use Rattle.bit_backend.specs.Actions.{is_named, named, on_args}
+use Rattle.bit_backend.proofs.Shapes.{by_shape}
 
 abbrev pub Unnamed : List ℕ → Type 0
 Unnamed name = (stem : List ℕ) → is_named name stem ≡ false
@@ -26,20 +26,9 @@ either : (t : Bool) (o : Option Action) → (if t then o else o) ≡ o
 either true o = refl
 either false o = refl
 
-module _ (name : List ℕ) (no : Unnamed name) where
-  pub unnamed_does_nothing : (args : List Arg) → on_args name args ≡ None
-  unnamed_does_nothing [] = refl
-  unnamed_does_nothing (arg.Res r ∷ args) = refl
-  unnamed_does_nothing (arg.Double t ∷ args) = refl
-  unnamed_does_nothing (arg.Int i ∷ args) = refl
-  unnamed_does_nothing (arg.Qubit q ∷ []) = rw (no (codes "x"), no (codes "reset"))
-  unnamed_does_nothing (arg.Qubit q ∷ arg.Res r ∷ []) = rw (no (codes "mz"), no (codes "m"), no (codes "mresetz"))
-  unnamed_does_nothing (arg.Qubit q ∷ arg.Res r ∷ b ∷ args) = refl
-  unnamed_does_nothing (arg.Qubit q ∷ arg.Double t ∷ args) = refl
-  unnamed_does_nothing (arg.Qubit q ∷ arg.Int i ∷ args) = refl
-  unnamed_does_nothing (arg.Qubit q ∷ arg.Qubit r ∷ []) = rw (no (codes "swap"), no (codes "cnot"), no (codes "cx")) (either (same_qubit q r) None)
-  unnamed_does_nothing (arg.Qubit q ∷ arg.Qubit r ∷ arg.Qubit s ∷ []) = rw (no (codes "ccx")) (either (same_qubit q r || same_qubit q s || same_qubit r s) None)
-  unnamed_does_nothing (arg.Qubit q ∷ arg.Qubit r ∷ arg.Qubit s ∷ b ∷ args) = refl
-  unnamed_does_nothing (arg.Qubit q ∷ arg.Qubit r ∷ arg.Res s ∷ args) = refl
-  unnamed_does_nothing (arg.Qubit q ∷ arg.Qubit r ∷ arg.Double t ∷ args) = refl
-  unnamed_does_nothing (arg.Qubit q ∷ arg.Qubit r ∷ arg.Int i ∷ args) = refl
+pub unnamed_does_nothing : (name : List ℕ) → Unnamed name → (args : List Arg) → on_args name args ≡ None
+unnamed_does_nothing name un =
+    by_shape name (λ _ o. o ≡ None) (λ q. rw (un (codes "x"), un (codes "reset"))) (λ q r. rw (un (codes "mz"), un (codes "m"), un (codes "mresetz")))
+    (λ a b. rw (un (codes "swap"), un (codes "cnot"), un (codes "cx")) (either (same_qubit a b) None))
+    (λ a b c. rw (un (codes "ccx")) (either (same_qubit a b || same_qubit a c || same_qubit b c) None))
+    (λ args unknown. refl)

@@ -11,7 +11,7 @@ use Rattle.backend_api.specs.Operations.{same_qubit}
 use Rattle.bit_backend.specs.declared.action.Action.{Action}
 use Rattle.bit_backend.specs.declared.action.Action.TheVariants as action
 
--- the whole name of an instruction
+-- the whole name of an instruction, by what stands between `__quantum__qis__` and `__body`
 abbrev pub named : List ℕ → List ℕ
 named stem = qis (stem ++ codes "__body")
 

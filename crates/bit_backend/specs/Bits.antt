@@ -43,7 +43,7 @@ pub record History : Type 0 where
   pub events : List Event
   pub fitting : fits events ≡ true
 
--- what a backend sees
+-- what contracts see of a backend with such events
 abbrev pub state_of : History → BackendState
 state_of h = record {
   events = Some h.events;
@@ -54,6 +54,6 @@ state_of h = record {
   spare = 0;
 }
 
--- the events that are told fit
-pub told_fits : (h : History) (es : List Event) → (state_of h).events ≡ Some es → fits es ≡ true
-told_fits h es e = subst (λ told. IfSome told (λ es. fits es ≡ true)) e h.fitting
+-- those that it tells fit
+pub told_events_fit : (h : History) (es : List Event) → (state_of h).events ≡ Some es → fits es ≡ true
+told_events_fit h es e = subst (λ told. IfSome told (λ es. fits es ≡ true)) e h.fitting

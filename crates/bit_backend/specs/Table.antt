@@ -6,9 +6,10 @@ use Rattle.backend_api.specs.declared.operation.QubitRef.{QubitRef}
 use Rattle.backend_api.specs.Operations.{same_qubit}
 use Rattle.indexmap.specs.IndexMap.{IndexMap, get}
 
-abbrev pub Table : Type 0
-Table = IndexMap QubitRef Bool (BuildHasherDefault FoldHasher)
+-- the bits that were written
+abbrev pub BitTable : Type 0
+BitTable = IndexMap QubitRef Bool (BuildHasherDefault FoldHasher)
 
--- the bit of a qubit: 0 where it has none
-abbrev pub bit_in : Table → QubitRef → Bool
+-- the bit of a qubit: 0 where none was written
+abbrev pub bit_in : BitTable → QubitRef → Bool
 bit_in t q = unwrap_or (get same_qubit t q) false

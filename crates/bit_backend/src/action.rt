@@ -6,7 +6,7 @@ use backend_api::{Arg, Op, QubitRef};
 
 /// What an operation does to the bits of qubits.
 #[derive(Clone, Copy, Debug, PartialEq, Eq)]
-pub enum Action {
+pub(crate) enum Action {
     Flip(QubitRef),
     Reset(QubitRef),
     Swap(QubitRef, QubitRef),
@@ -25,7 +25,7 @@ pub enum Action {
 
 /// What an operation does, or None where it isn't one of those that are known by their names and
 /// arguments.
-pub fn action_of(op: &Op) -> Option<Action>
+pub(crate) fn action_of(op: &Op) -> Option<Action>
     ensures { result ≡ spec.action_of op.now }
 {
     let Some(stem) = stem_of(op.name.as_slice()) else {

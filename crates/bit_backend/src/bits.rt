@@ -1,10 +1,10 @@
-//! The backend.
+//! The backend: a table of bits beside the events.
 ghost use Rattle.std.specs.Prelude.{◌≡◌, true, [], Some, IfOk, IfErr};
 ghost use Rattle.backend_api.specs.Backend.{Answered, Refused, Keeps};
 ghost use Rattle.backend_api.specs.declared.operation.Answer.TheVariants as answer;
 ghost use Rattle.backend_api.specs.declared.operation.Event.{Event};
 ghost use Rattle.backend_api.specs.Operations.{IsGate, IsMeasurement};
-ghost use Rattle.bit_backend.specs.Bits.{answer_after, fits, state_of, told_fits};
+ghost use Rattle.bit_backend.specs.Bits.{answer_after, fits, state_of, told_events_fit};
 
 use crate::action::action_of;
 use crate::table::{Table, answer_to, apply};
@@ -14,7 +14,25 @@ use ir_values::Room;
 use std::alloc::Global;
 use std::marker::Model;
 
-/// Qubits that are classical bits.
+/// Qubits that are classical bits, each 0 at first.
+///
+/// It does the operations that have a meaning for bits (QIR specification, 'Quantum Instruction Set').
+/// These are known by their names, here without `__quantum__qis__` before and `__body` behind, and have
+/// just the arguments that are named, no two of the qubits the same:
+///
+/// - `x` of a qubit flips it, and `reset` of a qubit sets it to 0.
+/// - `swap` of two qubits exchanges them.
+/// - `cnot` and `cx` of two qubits flip the second where the first is 1.
+/// - `ccx` of three qubits flips the third where both others are 1.
+/// - `mz` and `m` of a qubit and a result answer the qubit's bit.
+/// - `mresetz` of a qubit and a result answers the qubit's bit and sets it to 0.
+///
+/// Every other operation is refused as [`Stop::Unsupported`]. [`Stop::Memory`] comes only where there was
+/// none for the table or for the events, and no other refusal comes. What is refused is handed back and
+/// changes nothing. An operation looks up its own qubits alone, and goes over no other qubit and no event.
+///
+/// Contracts see the events that it answered. They fit: each is an operation that it can do, with the
+/// answer after the events before it.
 #[derive(Debug, Drop)]
 pub struct Bits {
     table: Table,
@@ -46,14 +64,15 @@ impl Bits {
         }
     }
 
-    /// The events, the oldest first.
+    /// The events, the oldest first: the operations that were answered, with their answers.
     pub fn events(&self) -> &[Event]
         ensures { result.now ≡ self.now.events }
     {
         self.events.as_slice()
     }
 
-    /// Does an operation, and answers it.
+    /// Does an operation and answers it. Memory for the table and the events is made sure of before a
+    /// bit changes.
     fn perform(&mut self, op: Op) -> Result<Answer, Turned>
         ensures answered { IfOk result (λ a. Answered op a (state_of self.old) (state_of self.new)) }
         ensures answer { IfOk result (λ a. answer_after self.old.events op ≡ Some a) }
@@ -88,14 +107,16 @@ impl Bits {
 impl Backend for Bits {
     ghost state = { state_of };
 
-    ghost told_fits = { told_fits };
+    ghost told_fits = { told_events_fit };
 
+    /// Does a gate: an operation without a result.
     fn gate(&mut self, op: Op) -> Result<(), Turned> {
         self.perform(op)?;
         Ok(())
     }
 
-    /// Does a measurement, and answers the bit of its qubit after the events.
+    /// Does a measurement: an operation with a result. It answers the bit of its qubit after the events
+    /// before it.
     fn measure(&mut self, op: Op) -> Result<bool, Turned>
         requires { IsMeasurement op }
         ensures answered { IfOk result (λ bit. Answered op (answer.Bit bit) (state_of self.old) (state_of self.new)) }

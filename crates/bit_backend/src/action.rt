@@ -5,7 +5,7 @@ ghost use Rattle.bit_backend.specs.Actions as spec;
 use backend_api::{Arg, Op, QubitRef};
 
 /// What an operation does to the bits of qubits.
-#[derive(Clone, Copy, Debug, PartialEq, Eq)]
+#[derive(Clone, Copy)]
 pub(crate) enum Action {
     Flip(QubitRef),
     Reset(QubitRef),

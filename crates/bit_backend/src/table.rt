@@ -13,7 +13,7 @@ use indexmap::IndexMap;
 pub(crate) type Table = IndexMap<QubitRef, bool>;
 
 /// The bit of a qubit.
-pub(crate) fn bit_in(table: &Table, qubit: QubitRef) -> bool
+fn bit_in(table: &Table, qubit: QubitRef) -> bool
     ensures { result ≡ bit_in table.now qubit }
 {
     table.get(&qubit).copied().unwrap_or(false)

@@ -91,16 +91,9 @@ impl Bits {
             });
         }
         let answer = answer_to(&self.table, action);
-        match self.events.push(Event { op, answer }) {
-            Ok(()) => {
-                apply(&mut self.table, action);
-                Ok(answer)
-            }
-            Err(failed) => Err(Turned {
-                op: failed.value.op,
-                why: Stop::Memory,
-            }),
-        }
+        self.events.push(Event { op, answer })?;
+        apply(&mut self.table, action);
+        Ok(answer)
     }
 }
 

@@ -1,8 +1,8 @@
-ghost use Rattle.std.specs.Prelude.{◌≡◌, count_by, false, IfOk, OnOk};
+ghost use Rattle.std.specs.Prelude.{◌≡◌, count_by};
 ghost use Rattle.backend_api.specs.Operations.{is_result};
 
 use super::*;
-use backend_api::{Answer, Arg, Args, Backend, Event, Op, QubitRef, ResultRef, Stop, Turned};
+use backend_api::{Answer, Arg, Args, Backend, Op, QubitRef, ResultRef, Stop, Turned};
 use ir_values::{Bytes, Copies, Int, Memory, Token, Width};
 use std::alloc::Global;
 use std::process::Abort;
@@ -14,257 +14,245 @@ fn bytes_of(alloc: Global, text: &[u8]) -> Result<Bytes, Memory> {
     Ok(bytes)
 }
 
-/// The whole name of an instruction.
-fn name_of(alloc: Global, stem: &[u8]) -> Result<Bytes, Memory> {
-    let mut name = bytes_of(alloc, b"__quantum__qis__")?;
-    name.extend_from_slice(stem)?;
-    name.extend_from_slice(b"__body")?;
-    Ok(name)
-}
-
-/// The argument that a letter stands for: `a` for the qubit `Alloc(0)`, `d` for a double, `i` for an
-/// integer, and a digit for the qubit of that fixed number.
-fn arg_of(alloc: Global, letter: u8) -> Result<Arg, Fail>
-    ensures { IfOk result (λ arg. is_result arg ≡ false) }
-{
+/// The argument that a letter stands for: `a` for the qubit `Alloc(0)`, `r` for the result 0, `d` for a
+/// double, `i` for an integer, and a digit for the qubit of that fixed number.
+fn arg_of(alloc: Global, letter: u8) -> Result<Arg, Fail> {
     Ok(match letter {
         b'a' => Arg::Qubit(QubitRef::Alloc(0)),
+        b'r' => Arg::Res(ResultRef::Id(0)),
         b'd' => Arg::Double(Token::new(bytes_of(alloc, b"0.5")?).ok_or("a double")?),
         b'i' => Arg::Int(Int::new(Width::W64, 0).ok_or("an integer")?),
         _ => Arg::Qubit(QubitRef::Id(u64::from(letter.wrapping_sub(b'0')))),
     })
 }
 
-/// Adds the arguments that letters stand for.
-fn add(alloc: Global, args: &mut Args, letters: &[u8]) -> Result<(), Fail>
-    ensures { OnOk result (count_by is_result args.new ≡ count_by is_result args.old) }
-{
+fn args_of(alloc: Global, letters: &[u8]) -> Result<Args, Fail> {
+    let mut args = Args::new(alloc);
     for letter in letters {
         args.push(arg_of(alloc, *letter)?)?;
     }
+    Ok(args)
+}
+
+/// The whole name of an instruction. A name with `__` stands as it is.
+fn name_of(alloc: Global, name: &str) -> Result<Bytes, Memory> {
+    if name.contains("__") {
+        return bytes_of(alloc, name.as_bytes());
+    }
+    let mut whole = bytes_of(alloc, b"__quantum__qis__")?;
+    whole.extend_from_slice(name.as_bytes())?;
+    whole.extend_from_slice(b"__body")?;
+    Ok(whole)
+}
+
+/// The operation of a word: its name, a colon and a letter for each argument, as `mz:0r`.
+fn op_of(alloc: Global, word: &str) -> Result<Op, Fail> {
+    let (name, letters) = word.split_once(':').ok_or("a colon")?;
+    Ok(Op {
+        name: name_of(alloc, name)?,
+        args: args_of(alloc, letters.as_bytes())?,
+    })
+}
+
+fn count_results(args: &[Arg]) -> usize
+    ensures { result ≡ count_by is_result args.now }
+{
+    let mut count = 0;
+    for arg in args {
+        if let Arg::Res(_) = arg {
+            count += 1;
+        }
+    }
+    count
+}
+
+/// What a backend answers to a gate or a measurement.
+fn answer_of<B: Backend>(backend: &mut B, op: Op) -> Result<Result<Answer, Turned>, Fail> {
+    match count_results(op.args.as_slice()) {
+        0 => Ok(backend.gate(op).map(|()| Answer::Done)),
+        1 => Ok(backend.measure(op).map(Answer::Bit)),
+        _ => Err(Fail::from("an operation has at most one result")),
+    }
+}
+
+/// What bits answer to the operation of a word: `.` that a gate is done, `0` or `1` to a measurement, and
+/// `-` that the operation is not supported. Then it came back whole, and is no event.
+fn letter_of(rt: &impl Abort, alloc: Global, bits: &mut Bits, word: &str) -> Result<char, Fail> {
+    let events = bits.events().len();
+    match answer_of(bits, op_of(alloc, word)?)? {
+        Ok(Answer::Done) => Ok('.'),
+        Ok(Answer::Bit(bit)) => Ok(if bit { '1' } else { '0' }),
+        Err(turned) => {
+            assert_eq!(rt; turned.why, Stop::Unsupported, "{word}");
+            assert!(rt;
+                turned.op == op_of(alloc, word)?,
+                "{word} came back as another operation"
+            );
+            assert_eq!(rt; bits.events().len(), events, "{word}");
+            Ok('-')
+        }
+    }
+}
+
+/// Expects these answers, a letter for each word.
+fn check(
+    rt: &impl Abort,
+    alloc: Global,
+    bits: &mut Bits,
+    words: &str,
+    answers: &str,
+) -> Result<(), Fail> {
+    let mut answers = answers.chars();
+    for word in words.split(' ') {
+        let letter = letter_of(rt, alloc, bits, word)?;
+        assert_eq!(rt; Some(letter), answers.next(), "{word} of {words}");
+    }
+    assert_eq!(rt; answers.next(), None, "more answers than words: {words}");
     Ok(())
 }
 
-/// Does the operation of this name on the arguments that letters stand for.
-fn gate<B: Backend>(
-    alloc: Global,
-    backend: &mut B,
-    name: Bytes,
-    letters: &[u8],
-) -> Result<Result<(), Turned>, Fail> {
-    let mut args = Args::new(alloc);
-    add(alloc, &mut args, letters)?;
-    Ok(backend.gate(Op { name, args }))
-}
-
-/// Does the operation of this name on the arguments that letters stand for, with the result 0 between
-/// them.
-fn measure<B: Backend>(
-    alloc: Global,
-    backend: &mut B,
-    name: Bytes,
-    letters: (&[u8], &[u8]),
-) -> Result<Result<bool, Turned>, Fail> {
-    let mut args = Args::new(alloc);
-    add(alloc, &mut args, letters.0)?;
-    args.push(Arg::Res(ResultRef::Id(0)))?;
-    add(alloc, &mut args, letters.1)?;
-    Ok(backend.measure(Op { name, args }))
-}
-
-fn bit<B: Backend>(alloc: Global, backend: &mut B, letter: &[u8]) -> Result<bool, Fail> {
-    Ok(measure(alloc, backend, name_of(alloc, b"mz")?, (letter, b""))??)
-}
-
-/// The bits of the qubits 0, 1 and 2 as the digits of a binary number, that of qubit 0 last.
-fn number_of<B: Backend>(alloc: Global, backend: &mut B) -> Result<u8, Fail> {
-    let last = u8::from(bit(alloc, backend, b"0")?);
-    let middle = u8::from(bit(alloc, backend, b"1")?);
-    let first = u8::from(bit(alloc, backend, b"2")?);
-    Ok(last | middle << 1 | first << 2)
-}
-
-/// Qubits 0, 1 and 2 whose bits are those of a number.
-fn bits_of(alloc: Global, number: u8) -> Result<Bits, Fail> {
+/// Qubits 0, 1 and 2 whose bits are the digits of a binary number, that of qubit 0 last.
+fn bits_of(rt: &impl Abort, alloc: Global, number: u8) -> Result<Bits, Fail> {
     let mut bits = Bits::new(alloc);
-    let digits: [(u8, &[u8]); 3] = [(1, b"0"), (2, b"1"), (4, b"2")];
-    for (digit, letter) in digits {
+    for (digit, word) in [(1, "x:0"), (2, "x:1"), (4, "x:2")] {
         if number & digit != 0 {
-            gate(alloc, &mut bits, name_of(alloc, b"x")?, letter)??;
+            check(rt, alloc, &mut bits, word, ".")?;
         }
     }
     Ok(bits)
 }
 
-#[test]
-fn gates_change_bits(rt: HostRuntime) -> Result<(), Fail> {
-    let alloc = rt.alloc();
+/// The bits of the qubits 0, 1 and 2 as a number.
+fn number_of(rt: &impl Abort, alloc: Global, bits: &mut Bits) -> Result<u8, Fail> {
+    let mut number = 0;
+    for word in ["mz:2r", "mz:1r", "mz:0r"] {
+        let bit = letter_of(rt, alloc, bits, word)? == '1';
+        number = number << 1 | u8::from(bit);
+    }
+    Ok(number)
+}
 
-    // The name, the qubits, and the numbers behind it of the bits that are 0 to 7 before it.
-    let rows: [(&[u8], &[u8], [u8; 8]); 8] = [
-        (b"x", b"0", [1, 0, 3, 2, 5, 4, 7, 6]),
-        (b"reset", b"0", [0, 0, 2, 2, 4, 4, 6, 6]),
-        (b"swap", b"01", [0, 2, 1, 3, 4, 6, 5, 7]),
-        (b"swap", b"02", [0, 4, 2, 6, 1, 5, 3, 7]),
-        (b"cnot", b"01", [0, 3, 2, 1, 4, 7, 6, 5]),
-        (b"cnot", b"10", [0, 1, 3, 2, 4, 5, 7, 6]),
-        (b"cx", b"01", [0, 3, 2, 1, 4, 7, 6, 5]),
-        (b"ccx", b"012", [0, 1, 2, 7, 4, 5, 6, 3]),
-    ];
-    for (i, (stem, qubits, behind)) in rows.into_iter().enumerate() {
-        for before in 0..8u8 {
-            let mut bits = bits_of(alloc, before)?;
-            gate(alloc, &mut bits, name_of(alloc, stem)?, qubits)??;
-            let number = number_of(alloc, &mut bits)?;
-            assert_eq!(rt; number, behind[before as usize], "row {i}, {before}");
-        }
+/// Expects that the operation of a word answers these letters to bits of the numbers 0 to 7, and makes
+/// them the bits of these numbers.
+fn check_numbers(
+    rt: &impl Abort,
+    alloc: Global,
+    word: &str,
+    answers: &str,
+    behind: [u8; 8],
+) -> Result<(), Fail> {
+    let mut answers = answers.chars();
+    for (before, behind) in (0u8..).zip(behind) {
+        let mut bits = bits_of(rt, alloc, before)?;
+        let letter = letter_of(rt, alloc, &mut bits, word)?;
+        assert_eq!(rt; Some(letter), answers.next(), "{word} after {before}");
+        assert_eq!(rt;
+            number_of(rt, alloc, &mut bits)?,
+            behind,
+            "{word} after {before}"
+        );
     }
     Ok(())
 }
 
 #[test]
-fn measurements_answer_bits(rt: HostRuntime) -> Result<(), Fail> {
+fn operations_change_and_answer_bits(rt: HostRuntime) -> Result<(), Fail> {
     let alloc = rt.alloc();
 
-    // The name, and the numbers behind it of the bits that are 0 to 7 before it.
-    let rows: [(&[u8], [u8; 8]); 3] = [
-        (b"mz", [0, 1, 2, 3, 4, 5, 6, 7]),
-        (b"m", [0, 1, 2, 3, 4, 5, 6, 7]),
-        (b"mresetz", [0, 0, 2, 2, 4, 4, 6, 6]),
+    // The operation, its answers to the bits of 0 to 7, and the numbers of the bits behind it.
+    let rows = [
+        ("x:0", "........", [1, 0, 3, 2, 5, 4, 7, 6]),
+        ("reset:0", "........", [0, 0, 2, 2, 4, 4, 6, 6]),
+        ("swap:01", "........", [0, 2, 1, 3, 4, 6, 5, 7]),
+        ("swap:02", "........", [0, 4, 2, 6, 1, 5, 3, 7]),
+        ("cnot:01", "........", [0, 3, 2, 1, 4, 7, 6, 5]),
+        ("cnot:10", "........", [0, 1, 3, 2, 4, 5, 7, 6]),
+        ("cx:01", "........", [0, 3, 2, 1, 4, 7, 6, 5]),
+        ("ccx:012", "........", [0, 1, 2, 7, 4, 5, 6, 3]),
+        ("mz:0r", "01010101", [0, 1, 2, 3, 4, 5, 6, 7]),
+        ("m:1r", "00110011", [0, 1, 2, 3, 4, 5, 6, 7]),
+        ("mresetz:0r", "01010101", [0, 0, 2, 2, 4, 4, 6, 6]),
+        ("h:0", "--------", [0, 1, 2, 3, 4, 5, 6, 7]),
     ];
-    for (i, (stem, behind)) in rows.into_iter().enumerate() {
-        for before in 0..8u8 {
-            let mut bits = bits_of(alloc, before)?;
-            let bit = measure(alloc, &mut bits, name_of(alloc, stem)?, (b"0", b""))??;
-            assert_eq!(rt; bit, before % 2 == 1, "row {i}, {before}");
-            let number = number_of(alloc, &mut bits)?;
-            assert_eq!(rt; number, behind[before as usize], "row {i}, {before}");
-        }
+    for (word, answers, behind) in rows {
+        check_numbers(&rt, alloc, word, answers, behind)?;
     }
     Ok(())
 }
 
 #[test]
-fn a_fixed_qubit_is_not_an_allocated_one(rt: HostRuntime) -> Result<(), Fail> {
+fn bits_follow_the_history(rt: HostRuntime) -> Result<(), Fail> {
     let alloc = rt.alloc();
-    let mut bits = Bits::new(alloc);
-    gate(alloc, &mut bits, name_of(alloc, b"x")?, b"a")??;
-    assert!(rt; !bit(alloc, &mut bits, b"0")?);
-    assert!(rt; bit(alloc, &mut bits, b"a")?);
-    gate(alloc, &mut bits, name_of(alloc, b"cnot")?, b"a0")??;
-    assert!(rt; bit(alloc, &mut bits, b"0")?);
-    Ok(())
-}
-
-/// Expects that an operation of this name with as many arguments came back as unsupported.
-fn expect_back(rt: &impl Abort, turned: Turned, name: &[u8], args: &Args) {
-    assert_eq!(rt; turned.why, Stop::Unsupported);
-    assert_eq!(rt; turned.op.name.as_slice(), name);
-    assert!(rt; turned.op.args == *args);
-}
-
-#[test]
-fn unknown_gates_come_back(rt: HostRuntime) -> Result<(), Fail> {
-    let alloc = rt.alloc();
-    let rows: [(&[u8], &[u8]); 26] = [
-        (b"__quantum__qis__h__body", b"0"),
-        (b"__quantum__qis__x__adj", b"0"),
-        (b"__quantum__qis__x", b"0"),
-        (b"__quantum__qis____body", b"0"),
-        (b"__quantum__rt__x__body", b"0"),
-        (b"__quantum__qis__xx__body", b"0"),
-        (b"x__body", b"0"),
-        (b"", b"0"),
-        (b"__quantum__qis__x__body", b""),
-        (b"__quantum__qis__x__body", b"01"),
-        (b"__quantum__qis__x__body", b"d"),
-        (b"__quantum__qis__x__body", b"0d"),
-        (b"__quantum__qis__reset__body", b"0i"),
-        (b"__quantum__qis__swap__body", b"0"),
-        (b"__quantum__qis__swap__body", b"00"),
-        (b"__quantum__qis__swap__body", b"012"),
-        (b"__quantum__qis__cnot__body", b"11"),
-        (b"__quantum__qis__cnot__body", b"0d"),
-        (b"__quantum__qis__cx__body", b"aa"),
-        (b"__quantum__qis__ccx__body", b"01"),
-        (b"__quantum__qis__ccx__body", b"001"),
-        (b"__quantum__qis__ccx__body", b"010"),
-        (b"__quantum__qis__ccx__body", b"011"),
-        (b"__quantum__qis__ccx__body", b"0123"),
-        (b"__quantum__qis__mz__body", b"0"),
-        (b"__quantum__qis__mresetz__body", b"0"),
+    let rows = [
+        ("mz:0r", "0"),
+        ("x:0 mz:0r m:0r mresetz:0r mz:0r", ".1110"),
+        ("x:0 x:0 mz:0r x:0 reset:0 mz:0r", "..0..0"),
+        ("x:0 h:0 mz:0r", ".-1"),
+        ("x:0 cnot:00 swap:00 mz:0r", ".--1"),
+        // A fixed qubit is not an allocated one of the same number.
+        ("x:a mz:0r mz:ar cnot:a0 mz:0r", ".01.1"),
+        ("x:0 swap:01 cx:12 ccx:120 mz:0r mz:1r mz:2r", "....111"),
     ];
-    let mut bits = bits_of(alloc, 1)?;
-    for (name, letters) in rows {
-        let mut args = Args::new(alloc);
-        add(alloc, &mut args, letters)?;
-        match gate(alloc, &mut bits, bytes_of(alloc, name)?, letters)? {
-            Ok(()) => panic!(&rt; "a gate was done"),
-            Err(turned) => expect_back(&rt, turned, name, &args),
-        }
-        assert_eq!(rt; bits.events().len(), 1);
+    for (words, answers) in rows {
+        check(&rt, alloc, &mut Bits::new(alloc), words, answers)?;
     }
-    assert!(rt; bit(alloc, &mut bits, b"0")?);
     Ok(())
 }
 
 #[test]
-fn unknown_measurements_come_back(rt: HostRuntime) -> Result<(), Fail> {
+fn other_operations_come_back(rt: HostRuntime) -> Result<(), Fail> {
     let alloc = rt.alloc();
-
-    // The name, and the arguments on both sides of the result.
-    let rows: [(&[u8], (&[u8], &[u8])); 10] = [
-        (b"__quantum__qis__mz__body", (b"", b"")),
-        (b"__quantum__qis__mz__body", (b"", b"0")),
-        (b"__quantum__qis__mz__body", (b"01", b"")),
-        (b"__quantum__qis__mz__body", (b"0", b"1")),
-        (b"__quantum__qis__m__body", (b"d", b"")),
-        (b"__quantum__qis__mresetz__body", (b"0", b"d")),
-        (b"__quantum__qis__mx__body", (b"0", b"")),
-        (b"__quantum__qis__x__body", (b"0", b"")),
-        (b"__quantum__qis__reset__body", (b"0", b"")),
-        (b"__quantum__qis__cnot__body", (b"01", b"")),
+    let rows = [
+        // Names: with qubits of known gates, and with a qubit and a result.
+        (
+            "h:0 xx:0 x__adj:0 x__body:0 __quantum__qis__x:0 __quantum__qis____body:0",
+            "------",
+        ),
+        (
+            "__quantum__rt__x__body:0 __quantum__qis__x__body__adj:0 __:0",
+            "---",
+        ),
+        ("mx:0r h:0r x:0r reset:0r cnot:01r mz__leak:0r", "------"),
+        // Arguments: too few or too many, of other types, and one qubit twice.
+        (
+            "x: x:01 x:d x:0d reset:0i swap:0 swap:012 cnot:0d ccx:01 ccx:0123",
+            "----------",
+        ),
+        (
+            "mz:0 mresetz:0 mz:r mz:r0 mz:01r mz:0r1 m:dr mresetz:0rd",
+            "--------",
+        ),
+        ("swap:00 cnot:11 cx:aa ccx:001 ccx:010 ccx:011", "------"),
     ];
-    let mut bits = bits_of(alloc, 1)?;
-    for (name, letters) in rows {
-        let mut args = Args::new(alloc);
-        add(alloc, &mut args, letters.0)?;
-        args.push(Arg::Res(ResultRef::Id(0)))?;
-        add(alloc, &mut args, letters.1)?;
-        match measure(alloc, &mut bits, bytes_of(alloc, name)?, letters)? {
-            Ok(_) => panic!(&rt; "a measurement was done"),
-            Err(turned) => expect_back(&rt, turned, name, &args),
-        }
-        assert_eq!(rt; bits.events().len(), 1);
+    for (words, answers) in rows {
+        let mut bits = bits_of(&rt, alloc, 5)?;
+        check(&rt, alloc, &mut bits, words, answers)?;
+        assert_eq!(rt; number_of(&rt, alloc, &mut bits)?, 5);
     }
-    assert!(rt; bit(alloc, &mut bits, b"0")?);
     Ok(())
 }
 
 #[test]
-fn events_are_operations_with_their_answers(rt: HostRuntime) -> Result<(), Fail> {
+fn events_are_the_answered_operations(rt: HostRuntime) -> Result<(), Fail> {
     let alloc = rt.alloc();
     let mut bits = Bits::new(alloc);
     assert!(rt; bits.events().is_empty());
-    gate(alloc, &mut bits, name_of(alloc, b"x")?, b"0")??;
-    assert!(rt; bit(alloc, &mut bits, b"0")?);
-    let mut args = Args::new(alloc);
-    add(alloc, &mut args, b"0")?;
-    let flip = Event {
-        op: Op {
-            name: name_of(alloc, b"x")?,
-            args: args.copy(alloc)?,
-        },
-        answer: Answer::Done,
-    };
-    args.push(Arg::Res(ResultRef::Id(0)))?;
-    let measurement = Event {
-        op: Op {
-            name: name_of(alloc, b"mz")?,
-            args,
-        },
-        answer: Answer::Bit(true),
-    };
-    assert!(rt; bits.events() == [flip, measurement].as_slice());
+    check(
+        &rt,
+        alloc,
+        &mut bits,
+        "x:0 h:0 mz:0r mz:0 mresetz:1r",
+        ".-1-0",
+    )?;
+    let answered = [
+        ("x:0", Answer::Done),
+        ("mz:0r", Answer::Bit(true)),
+        ("mresetz:1r", Answer::Bit(false)),
+    ];
+    assert_eq!(rt; bits.events().len(), answered.len());
+    for (event, (word, answer)) in bits.events().iter().zip(answered) {
+        assert!(rt; event.op == op_of(alloc, word)?, "{word}");
+        assert_eq!(rt; event.answer, answer, "{word}");
+    }
     Ok(())
 }

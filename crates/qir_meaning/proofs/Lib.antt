@@ -3,3 +3,4 @@ pub mod Bounds
 pub mod Forms
 pub mod Grow
 pub mod Relation
+pub mod Worked

@@ -1,7 +1,7 @@
-//! Flips a qubit of the bit backend as often as asked, to be timed.
+//! Flips qubits of the bit backend as often as asked, to be timed.
 //!
-//! Each line of standard input is a number of flips of one qubit, which is 0 at first and is measured
-//! behind them. The line that is written has the number and the qubit's bit.
+//! Each line of standard input has two numbers: of flips, and of the qubits that they go round, each 0
+//! at first. The line that is written has the two numbers and the bit of the first qubit behind them.
 #![tactic(auto)]
 
 ghost use Rattle.std.specs.Prelude.{IfOk};
@@ -19,11 +19,11 @@ fn bytes_of(alloc: Global, text: &[u8]) -> Result<Bytes, Memory> {
     Ok(bytes)
 }
 
-fn flip(alloc: Global) -> Result<Op, Memory>
+fn flip(alloc: Global, qubit: u64) -> Result<Op, Memory>
     ensures { IfOk result (λ op. IsGate op) }
 {
     let mut args = Args::new(alloc);
-    args.push(Arg::Qubit(QubitRef::Id(0)))?;
+    args.push(Arg::Qubit(QubitRef::Id(qubit)))?;
     Ok(Op {
         name: bytes_of(alloc, b"__quantum__qis__x__body")?,
         args,
@@ -42,26 +42,31 @@ fn measurement(alloc: Global) -> Result<Op, Memory>
     })
 }
 
-/// The bit of a qubit after so many flips.
-fn bit_after(alloc: Global, flips: u32) -> Result<bool, Stop> {
+/// The bit of the first qubit after so many flips that go round so many qubits.
+fn first_bit(alloc: Global, flips: u64, qubits: u64) -> Result<bool, Stop> {
     let mut bits = Bits::new(alloc);
-    for _ in 0..flips {
-        let op = flip(alloc).map_err(|_| Stop::Memory)?;
+    for i in 0..flips {
+        let op = flip(alloc, i.checked_rem(qubits).unwrap_or(0)).map_err(|_| Stop::Memory)?;
         bits.gate(op).map_err(|turned| turned.why)?;
     }
     let op = measurement(alloc).map_err(|_| Stop::Memory)?;
     bits.measure(op).map_err(|turned| turned.why)
 }
 
+fn numbers(line: &str) -> Option<(u64, u64)> {
+    let (flips, qubits) = line.split_once(' ')?;
+    Some((flips.parse::<u64>().ok()?, qubits.parse::<u64>().ok()?))
+}
+
 fn main(rt: HostRuntime) -> io::Result<()> {
     for line in rt.lines(rt.alloc()) {
         let line = line?;
-        let Some(flips) = line.parse::<u32>().ok() else {
-            println!(rt; "a number is wanted")?;
+        let Some((flips, qubits)) = numbers(line.as_str()) else {
+            println!(rt; "two numbers are wanted")?;
             continue;
         };
-        match bit_after(rt.alloc(), flips) {
-            Ok(bit) => println!(rt; "{flips} {}", u8::from(bit))?,
+        match first_bit(rt.alloc(), flips, qubits) {
+            Ok(bit) => println!(rt; "{flips} {qubits} {}", u8::from(bit))?,
             Err(why) => println!(rt; "{why}")?,
         }
     }

@@ -9,7 +9,7 @@ use Rattle.ir_reader.specs.FirstText.{Program, lines_text}
 use Rattle.ir_reader.specs.FirstTree.{tree_of}
 use Rattle.qir_cli.specs.BaseText.{base_text}
 
-two_allocations : Program
+unfoldable pub two_allocations : Program
 two_allocations = record {
   qubits = 0;
   lines =

@@ -9,10 +9,6 @@ use Rattle.backend_api.specs.declared.operation.Event.{Event}
 use Rattle.backend_api.specs.declared.operation.Op.{Op}
 use Rattle.backend_api.specs.declared.operation.QubitRef.{QubitRef}
 use Rattle.backend_api.specs.declared.operation.QubitRef.TheVariants as qubit
-use Rattle.ir_reader.specs.declared.line.Gate.TheVariants.{H}
-use Rattle.ir_reader.specs.declared.line.Line.TheVariants.{Allocate, Release, Apply}
-use Rattle.ir_reader.specs.declared.line.Qubit.TheVariants.{Named}
-use Rattle.ir_reader.specs.FirstText.{Program}
 use Rattle.ir_reader.specs.FirstTree.{tree_of}
 use Rattle.ir_values.specs.Calls.{class_of}
 use Rattle.qir_meaning.specs.Entry.{entry_of}
@@ -21,19 +17,7 @@ use Rattle.qir_meaning.specs.Runs.{Returned, Asks, Cut}
 use Rattle.qir_meaning.specs.State.{State}
 use Rattle.qir_meaning.specs.Steps.{Ended, exec, run_by_steps}
 use Rattle.qir_cli.specs.BaseTree.{base_tree}
-
-two_allocations : Program
-two_allocations = record {
-  qubits = 0;
-  lines =
-      Allocate (codes "a")
-      ∷ Apply H (Named (codes "a"))
-      ∷ Release (codes "a")
-      ∷ Allocate (codes "b")
-      ∷ Apply H (Named (codes "b"))
-      ∷ Release (codes "b")
-      ∷ [];
-}
+use Rattle.qir_cli.proofs.Worked.{two_allocations}
 
 abbrev hadamard : QubitRef → Op
 hadamard q = record { name = codes "__quantum__qis__h__body"; args = arg.Qubit q ∷ [] }

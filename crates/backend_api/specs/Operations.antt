@@ -51,6 +51,20 @@ qubits_of op = flat_map qubits_of_arg op.args
 abbrev pub qubits_in : List Event → List QubitRef
 qubits_in es = flat_map (λ e. qubits_of e.op) es
 
+abbrev pub results_of_arg : Arg → List ResultRef
+results_of_arg (arg.Qubit q) = []
+results_of_arg (arg.Res r) = r ∷ []
+results_of_arg (arg.Double t) = []
+results_of_arg (arg.Int i) = []
+
+-- the results that an operation names, in order
+abbrev pub results_of : Op → List ResultRef
+results_of op = flat_map results_of_arg op.args
+
+-- the results that events name, in order
+abbrev pub results_in : List Event → List ResultRef
+results_in es = flat_map (λ e. results_of e.op) es
+
 abbrev pub bits_of_answer : Answer → List Bool
 bits_of_answer answer.Done = []
 bits_of_answer (answer.Bit b) = b ∷ []

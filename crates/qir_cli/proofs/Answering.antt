@@ -9,6 +9,7 @@ use Rattle.ir_reader.specs.declared.parsed.ReadStop.TheVariants as stop
 use Rattle.ir_reader.specs.FirstText.{Program, IsProgram, text_of}
 use Rattle.ir_reader.specs.Parses.{Parses, IsTreeOf, MayStopWith}
 use Rattle.ir_values.specs.declared.memory.Memory.{Memory}
+use Rattle.qir_meaning.specs.Apart.{KeepsApart}
 use Rattle.qir_meaning.specs.Same.{SameBehaviour}
 use Rattle.qir_cli.specs.declared.reply.Reply.{Reply}
 use Rattle.qir_cli.specs.declared.status.Status.{Status}
@@ -16,7 +17,7 @@ use Rattle.qir_cli.specs.declared.status.Status.TheVariants.{Refused}
 use Rattle.qir_cli.specs.Answers.{limit, instructions, refusal_line, other_text_line, ReadsAs, AlwaysRuns, LowerAnswer, other_text, over_budget, lowered}
 use Rattle.qir_cli.specs.BaseTree.{base_tree, naming_of}
 use Rattle.qir_cli.specs.Budget.{FitsBudget, within, over}
-use Rattle.qir_cli.proofs.BaseBehaviour.{base_tree-SameBehaviour, base_tree-HasRun}
+use Rattle.qir_cli.proofs.BaseBehaviour.{base_tree-SameBehaviour, base_tree-HasRun, tree_of-KeepsApart}
 use Rattle.qir_cli.proofs.Programs.{instructions-tree_of}
 
 -- a module that was parsed does the same when it is lowered
@@ -25,6 +26,10 @@ same : (bytes : List ℕ) (parsed : Parsed) → Parses bytes parsed → (budget 
 same bytes parsed is budget few =
     let lines : length is.program.lines + 1 ≤ budget = subst (λ n. n ≤ budget) (ap instructions is.tree.tree ∙ instructions-tree_of is.program) few in
     subst (λ m. SameBehaviour m (base_tree m) (naming_of m) budget) (sym is.tree.tree) (base_tree-SameBehaviour is.program is.is_program budget lines)
+
+-- under a naming that keeps its handles apart
+apart : (bytes : List ℕ) (parsed : Parsed) → Parses bytes parsed → KeepsApart (naming_of parsed.module) parsed.module
+apart bytes parsed is = subst (λ m. KeepsApart (naming_of m) m) (sym is.tree.tree) (tree_of-KeepsApart is.program is.is_program)
 
 -- and both always have a run
 runs : (bytes : List ℕ) (parsed : Parsed) → Parses bytes parsed → AlwaysRuns parsed.module × AlwaysRuns (base_tree parsed.module)
@@ -41,7 +46,7 @@ reads-as bytes parsed is complete = record {
 answer-of : (budget : ℕ) (bytes : List ℕ) (parsed : Parsed) → length bytes ≤ limit → Parses bytes parsed
     → ((p : Program) → IsProgram p → bytes ≡ text_of p → IsTreeOf p parsed) → (s : Status) (text : List ℕ)
     → FitsBudget budget parsed.module s text → LowerAnswer budget bytes s text
-answer-of budget bytes parsed short is complete s text (within few) = lowered short (reads-as bytes parsed is complete) few (same bytes parsed is budget few) (runs bytes parsed is).0 (runs bytes parsed is).1
+answer-of budget bytes parsed short is complete s text (within few) = lowered short (reads-as bytes parsed is complete) few (same bytes parsed is budget few) (apart bytes parsed is) (runs bytes parsed is).0 (runs bytes parsed is).1
 answer-of budget bytes parsed short is complete s text (over many) = over_budget short (reads-as bytes parsed is complete) many
 
 pub answered-parsed : (budget : ℕ) (bytes : List ℕ) (parsed : Parsed) → length bytes ≤ limit → Parses bytes parsed

@@ -28,15 +28,25 @@ use Rattle.qir_meaning.specs.Entry.{entry_of}
 use Rattle.qir_meaning.specs.Laws.{HasRun}
 use Rattle.qir_meaning.specs.Moves.{move, step_move, does}
 use Rattle.qir_meaning.specs.Same.{SameBehaviour}
-use Rattle.qir_meaning.specs.Simulation.{On, tick, whole_start, Started, Simulation}
+use Rattle.qir_meaning.specs.Runs.{RunEnd, Runs}
+use Rattle.qir_meaning.specs.Simulation.{On, run, tick, whole_start, Started, Simulation}
+use Rattle.qir_meaning.specs.Apart.{KeepsApart, QubitBelow, ResultBelow, StaysBelow, qubits_of_run, results_of_run}
+use Rattle.qir_meaning.specs.Naming.{fixed_naming}
+use Rattle.qir_meaning.proofs.Apart.{keeps-apart}
+use Rattle.qir_meaning.proofs.Bounds.{run-from}
+use Rattle.output_records.specs.declared.record.Record.{Record}
+use Rattle.backend_api.specs.declared.operation.Event.{Event}
+use Rattle.std.proofs.lemmas.List.Elements.{All-nil, All-same}
+use Rattle.qir_cli.proofs.Below.{AreBelow, EndsBelow, run-below}
 use Rattle.qir_meaning.specs.State.{State, Next, frame}
 use Rattle.qir_cli.specs.BaseGates.{own_qubits, gates_of, used_gates, first_calls}
 use Rattle.qir_cli.specs.BaseTree.{base_tree, naming_of, block, block_id, initialize_call, lowered_gate, lowered_main, lowered_attrs, base_flags}
 use Rattle.qir_meaning.proofs.Behaviour.{both-run, same-behaviour}
-use Rattle.qir_cli.proofs.Follow.{IsSource, IsTarget, state, target, tick-is, follow}
+use Rattle.qir_cli.proofs.Follow.{IsTarget, target, follow}
 use Rattle.qir_cli.proofs.Gates.{gates, gates-are, gates-known, all-found, AllFound}
 use Rattle.qir_cli.proofs.Moves.{at, apply, inst-at, term-at, holds-all, Holds, initialize, class-initialize, declared-move}
 use Rattle.qir_cli.proofs.Scopes.{Allocated}
+use Rattle.qir_cli.proofs.Source.{IsSource, Stands, state, tick-is}
 
 source-is : (p : Program) → IsSource (tree_of p) (insts_of [] p.lines)
 unfolding move
@@ -102,6 +112,10 @@ module _ (gs : List Constant) (n : Name) (attrs : List Attr) (insts : List Inst)
   jumps : (ans : List Answer) → tick lowered (target 0 1 ans []) ≡ On (target 1 0 ans [])
   jumps ans = tick-is lowered (target 0 1 ans []) _ (jumps-move (state ans 0 [] []))
 
+-- the number in the attribute is read back
+pub own_qubits-tree_of : (p : Program) → IsProgram p → own_qubits (tree_of p) ≡ p.qubits
+own_qubits-tree_of p is = (decimal_is_IsNumeral p.qubits (let h = is.qubits in omega (arith, h))).1
+
 -- the lowered module's entry, and the runs side by side
 module _ (p : Program) (is : IsProgram p) (W : ℕ) (bound : length p.lines + 1 ≤ W) where
   abbrev m : Module
@@ -136,6 +150,9 @@ module _ (p : Program) (is : IsProgram p) (W : ℕ) (bound : length p.lines + 1 
     size = let none : Option Value = None in let e = length-replicate (length (main_function p).locals - 0) none in let f = length-map {B = Name × Ty} (names_of p.lines) (λ n. (name.Text n, ty.Qubit)) in e ∙ omega (arith, f);
   }
 
+  stands : Stands (insts_of [] p.lines) p.qubits [] p.lines 0 0 (frame (main_function p) []) []
+  stands = record { fits = is.lines; code = holds-all (insts_of [] p.lines); values = values; count = refl; held = tt }
+
   started : (answers : List Answer) → Started (naming_of m) m l W (whole_start (record { number = 0; function = main_function p }) answers) (whole_start (record { number = 0; function = lowered_main m (main_function p) }) answers)
   started ans = record {
     steps = 2;
@@ -145,15 +162,7 @@ module _ (p : Program) (is : IsProgram p) (W : ℕ) (bound : length p.lines + 1 
     follows = λ n. (
       length p.lines,
       follow m l (own_qubits m) W (insts_of [] p.lines) outs (used_gates m) (source-is p) target-at n p.qubits p.lines [] 0 0 0 (frame (main_function p) []) [] [] [] ans
-          (record {
-            fits = is.lines;
-            code = holds-all (insts_of [] p.lines);
-            lowered = code-at;
-            found = found-at;
-            values = values;
-            count = refl;
-            held = tt;
-          })
+          (record { stands = stands; lowered = code-at; found = found-at })
           (omega (arith, bound)) refl,
     );
   }
@@ -167,6 +176,20 @@ module _ (p : Program) (is : IsProgram p) (W : ℕ) (bound : length p.lines + 1 
     started = started;
   }
 
+  ends-below : (a : List Answer) (n : ℕ) → EndsBelow p.qubits (run m n (whole_start (record { number = 0; function = main_function p }) a))
+  ends-below a n = run-below m p.qubits (insts_of [] p.lines) (source-is p) n p.lines [] 0 0 (frame (main_function p) []) [] [] a stands (record { all = All-nil (QubitBelow p.qubits); none = refl })
+
+  below : (a : List Answer) (n : ℕ) (es : List Event) (rs : List Record) (e : RunEnd) → Runs m a n es rs e → AreBelow p.qubits (qubits_of_run es e) (results_of_run es e)
+  below a n es rs e r =
+      let s = run-from m (record { number = 0; function = main_function p }) (source-entry p) a n es rs e r in
+      subst (λ es. AreBelow p.qubits (qubits_of_run es e) (results_of_run es e)) s.2 (subst (EndsBelow p.qubits) s.1 (ends-below a n))
+
+  stays-below : StaysBelow m p.qubits 0
+  stays-below = record {
+    qubits = λ a n es rs e r. (below a n es rs e r).all;
+    results = λ a n es rs e r. All-same (ResultBelow 0) _ _ (below a n es rs e r).none (All-nil (ResultBelow 0));
+  }
+
 pub base_tree-SameBehaviour : (p : Program) → IsProgram p → (W : ℕ) → length p.lines + 1 ≤ W → SameBehaviour (tree_of p) (base_tree (tree_of p)) (naming_of (tree_of p)) W
 base_tree-SameBehaviour p is W bound = same-behaviour (tree_of p) (base_tree (tree_of p)) (naming_of (tree_of p)) W (simulation p is W bound)
 
@@ -175,6 +198,7 @@ pub base_tree-HasRun : (p : Program) → IsProgram p → (answers : List Answer)
 base_tree-HasRun p is answers n =
     let W = length p.lines + 1 in both-run (tree_of p) (base_tree (tree_of p)) (naming_of (tree_of p)) W (simulation p is W (omega arith)) answers n
 
--- the number in the attribute is read back
-pub own_qubits-tree_of : (p : Program) → IsProgram p → own_qubits (tree_of p) ≡ p.qubits
-own_qubits-tree_of p is = (decimal_is_IsNumeral p.qubits (let h = is.qubits in omega (arith, h))).1
+-- no two of the handles that its runs name get one name
+pub tree_of-KeepsApart : (p : Program) → IsProgram p → KeepsApart (naming_of (tree_of p)) (tree_of p)
+tree_of-KeepsApart p is =
+    subst (λ k. KeepsApart (fixed_naming k 0) (tree_of p)) (sym (own_qubits-tree_of p is)) (keeps-apart (tree_of p) p.qubits 0 (stays-below p is (length p.lines + 1) (omega arith)))

@@ -1,5 +1,6 @@
 pub mod Answering
 pub mod BaseBehaviour
+mod Below
 pub mod Calls
 mod Follow
 mod Gates
@@ -9,6 +10,7 @@ pub mod OneAnswer
 pub mod Programs
 mod Scopes
 pub mod Sending
+mod Source
 pub mod WholeText
 mod Worked
 mod WorkedRuns

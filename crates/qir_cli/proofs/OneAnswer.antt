@@ -15,21 +15,21 @@ one : (budget : ℕ) (bytes : List ℕ) (s s' : Status) (text text' : List ℕ) 
 one budget bytes s s' text text' (too_long long) (too_long long') = (refl, refl)
 one budget bytes s s' text text' (too_long long) (other_text short none) = absurd (omega arith)
 one budget bytes s s' text text' (too_long long) (over_budget short reads many) = absurd (omega arith)
-one budget bytes s s' text text' (too_long long) (lowered short reads few same runs lowered_runs) = absurd (omega arith)
+one budget bytes s s' text text' (too_long long) (lowered short reads few same apart runs lowered_runs) = absurd (omega arith)
 one budget bytes s s' text text' (other_text short none) (too_long long) = absurd (omega arith)
 one budget bytes s s' text text' (other_text short none) (other_text short' none') = (refl, refl)
 one budget bytes s s' text text' (other_text short none) (over_budget {m} short' reads many) = absurd (none m reads.first)
-one budget bytes s s' text text' (other_text short none) (lowered {m} short' reads few same runs lowered_runs) = absurd (none m reads.first)
+one budget bytes s s' text text' (other_text short none) (lowered {m} short' reads few same apart runs lowered_runs) = absurd (none m reads.first)
 one budget bytes s s' text text' (over_budget short reads many) (too_long long) = absurd (omega arith)
 one budget bytes s s' text text' (over_budget {m} short reads many) (other_text short' none) = absurd (none m reads.first)
 one budget bytes s s' text text' (over_budget short reads many) (over_budget short' reads' many') = (refl, refl)
-one budget bytes s s' text text' (over_budget {m} short reads many) (lowered {m = l} short' reads' few same runs lowered_runs) =
+one budget bytes s s' text text' (over_budget {m} short reads many) (lowered {m = l} short' reads' few same apart runs lowered_runs) =
     absurd (not_both_budgets budget m l (reads.only l reads'.first) many few)
-one budget bytes s s' text text' (lowered short reads few same runs lowered_runs) (too_long long) = absurd (omega arith)
-one budget bytes s s' text text' (lowered {m} short reads few same runs lowered_runs) (other_text short' none) = absurd (none m reads.first)
-one budget bytes s s' text text' (lowered {m} short reads few same runs lowered_runs) (over_budget {m = l} short' reads' many) =
+one budget bytes s s' text text' (lowered short reads few same apart runs lowered_runs) (too_long long) = absurd (omega arith)
+one budget bytes s s' text text' (lowered {m} short reads few same apart runs lowered_runs) (other_text short' none) = absurd (none m reads.first)
+one budget bytes s s' text text' (lowered {m} short reads few same apart runs lowered_runs) (over_budget {m = l} short' reads' many) =
     absurd (not_both_budgets budget l m (reads'.only m reads.first) many few)
-one budget bytes s s' text text' (lowered {m} short reads few same runs lowered_runs) (lowered {m = l} short' reads' few' same' runs' lowered_runs') =
+one budget bytes s s' text text' (lowered {m} short reads few same apart runs lowered_runs) (lowered {m = l} short' reads' few' same' apart' runs' lowered_runs') =
     (refl, ap base_text (sym (reads.only l reads'.first)))
 
 pub answers-one : AnswersAreOne

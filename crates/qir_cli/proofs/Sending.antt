@@ -19,7 +19,7 @@ answer-status : (budget : ℕ) (bytes : List ℕ) (s : Status) (text : List ℕ)
 answer-status budget bytes s text (too_long long) = tt
 answer-status budget bytes s text (other_text short other) = tt
 answer-status budget bytes s text (over_budget short first many) = tt
-answer-status budget bytes s text (lowered short first few same runs lowered_runs) = tt
+answer-status budget bytes s text (lowered short first few same apart runs lowered_runs) = tt
 
 pub Answer-IsAnswered : (command : Command) (bytes : List ℕ) (s : Status) (text : List ℕ) → Answer command bytes s text → IsAnswered s
 Answer-IsAnswered (LowerBase budget) bytes s text a = answer-status budget bytes s text a

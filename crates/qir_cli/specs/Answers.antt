@@ -7,6 +7,7 @@ use Rattle.qir_cli.specs.declared.command.Command.TheVariants.{LowerBase}
 use Rattle.qir_cli.specs.declared.status.Status.{Status}
 use Rattle.qir_cli.specs.declared.status.Status.TheVariants as status
 use Rattle.ir_reader.specs.First.{First}
+use Rattle.qir_meaning.specs.Apart.{KeepsApart}
 use Rattle.qir_meaning.specs.Laws.{HasRun}
 use Rattle.qir_meaning.specs.Same.{SameBehaviour}
 use Rattle.qir_cli.specs.BaseGates.{block_insts}
@@ -54,9 +55,9 @@ pub data LowerAnswer (budget : ℕ) (bytes : List ℕ) : Status → List ℕ →
   -- it has more instructions than the budget: the first that is too much
   over_budget : {m : Module} → length bytes ≤ limit → ReadsAs m bytes → budget < instructions m
       → LowerAnswer budget bytes status.Refused (budget_line (budget + 1))
-  -- the lowered module, which does what the module does; both have a run whatever the machine answers
+  -- the lowered module, which does what the module does under one injective naming; both have a run whatever the machine answers
   lowered : {m : Module} → length bytes ≤ limit → ReadsAs m bytes → instructions m ≤ budget
-      → SameBehaviour m (base_tree m) (naming_of m) budget → AlwaysRuns m → AlwaysRuns (base_tree m)
+      → SameBehaviour m (base_tree m) (naming_of m) budget → KeepsApart (naming_of m) m → AlwaysRuns m → AlwaysRuns (base_tree m)
       → LowerAnswer budget bytes status.Done (base_text m)
 
 abbrev pub Answer : Command → List ℕ → Status → List ℕ → Type 0

@@ -1,3 +1,4 @@
+pub mod Apart
 pub mod Behaviour
 pub mod Bounds
 pub mod Forms

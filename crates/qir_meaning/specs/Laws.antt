@@ -5,6 +5,8 @@ use Rattle.backend_api.specs.declared.operation.Event.{Event}
 use Rattle.ir_module.specs.declared.tree.Module.{Module}
 use Rattle.output_records.specs.declared.record.Record.{Record}
 use Rattle.backend_api.specs.Naming.{Naming}
+use Rattle.qir_meaning.specs.Apart.{KeepsApart, StaysBelow}
+use Rattle.qir_meaning.specs.Naming.{fixed_naming}
 use Rattle.qir_meaning.specs.Runs.{RunEnd, Cut, Runs}
 use Rattle.qir_meaning.specs.Same.{Prefix, SameBehaviour}
 use Rattle.qir_meaning.specs.Simulation.{Simulation}
@@ -45,3 +47,7 @@ SimulationKeepsBehaviour = (m l : Module) (N : Naming) (W : ℕ) → Simulation 
 -- and both have a run, whatever the answers and the bound: no instruction is without a meaning
 abbrev pub SimulationGivesRuns : Type 0
 SimulationGivesRuns = (m l : Module) (N : Naming) (W : ℕ) → Simulation m l N W → (answers : List Answer) (n : ℕ) → HasRun m answers n × HasRun l answers n
+
+-- the fixed naming keeps the handles of a module apart whose runs name fixed numbers below the required ones alone
+abbrev pub FixedNamingKeepsApart : Type 0
+FixedNamingKeepsApart = (m : Module) (k r : ℕ) → StaysBelow m k r → KeepsApart (fixed_naming k r) m

@@ -1,6 +1,7 @@
 //! Laws of runs. Each function does nothing: what it ensures is the law.
 ghost use Rattle.qir_meaning.specs.Laws.{
   EndedRunsStay,
+  FixedNamingKeepsApart,
   HasOneRun,
   RunsAreSteps,
   RunsOnlyGrow,
@@ -37,4 +38,10 @@ pub fn simulation_keeps_behaviour()
 /// other.
 pub fn simulation_gives_runs()
     ensures { SimulationGivesRuns }
+{}
+
+/// The fixed naming gives no two qubits and no two results that runs of a module name one name, where the
+/// fixed numbers among them are below the required ones.
+pub fn fixed_naming_keeps_apart()
+    ensures { FixedNamingKeepsApart }
 {}

@@ -68,8 +68,8 @@ impl Exact for Arg {
     ghost exact = { Prim.search (rules, equal_decides) };
 }
 
-/// An operation: the name of a quantum instruction with its arguments. It is a measurement exactly
-/// where it has a `Res` argument, and else a gate.
+/// An operation: the name of a quantum instruction with its arguments. It is a gate where it has no
+/// `Res` argument, and a measurement where it has one. No backend is asked for one that has more.
 #[derive(Debug, Drop, PartialEq, Eq, Hash)]
 pub struct Op {
     pub name: Bytes,

@@ -22,7 +22,7 @@ const LIMIT: usize = 4_194_304;
 /// - `BadWords` comes exactly where the words are no command, and then nothing is read or written.
 /// - `ReadFault` comes only where a read failed, and then nothing is written.
 /// - `WriteFault` comes only where a write failed, and then the beginning of the answer was written.
-/// - `Memory` says only that there was none, and then nothing is written.
+/// - `Memory` may come wherever memory is asked for, and then nothing is written.
 /// - Every other status comes with the whole of the answer that the command has for all the bytes that
 ///   the source had left, where it tells them.
 pub fn qir<S: Source, K: Sink>(

@@ -17,7 +17,7 @@ pub enum Status {
     ReadFault,
     /// A write failed. The beginning of the answer was written.
     WriteFault,
-    /// There was no memory. Nothing was written.
+    /// Out of memory: no clause says when. Nothing was written.
     Memory,
 }
 

@@ -89,7 +89,7 @@ impl Backend for Script {
         Ok(())
     }
 
-    /// Answers the first bit left.
+    /// Answers the first bit left. [`Stop::Empty`] comes exactly where none is left.
     fn measure(&mut self, op: Op) -> Result<bool, Turned>
         requires { IsMeasurement op }
         ensures answered { IfOk result (λ bit. Answered op (answer.Bit bit) (seen self.old) (seen self.new)) }

@@ -2,5 +2,7 @@
 #![tactic(auto)]
 
 mod record;
+#[cfg(test)]
+mod tests;
 
 pub use record::{Record, Records, Shown};

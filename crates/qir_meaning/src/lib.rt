@@ -3,6 +3,8 @@
 
 mod end;
 mod laws;
+#[cfg(test)]
+mod tests;
 
 pub use end::{Ask, End};
 pub use laws::{

@@ -1,5 +1,5 @@
 //! `lower base`.
-use crate::given::{Ports, bytes, lowered, run, text_of};
+use crate::given::{Outcome, Ports, bytes, lowered, run, text_of};
 use ir_values::{Bytes, Memory};
 use qir_cli::Status;
 use std::alloc::Global;
@@ -16,6 +16,15 @@ const RET: &str = "ret i64 0";
 const H: &str = "h__body(%Qubit*)";
 
 const FIRST_PATH: &[u8] = b"REFUSED\tread\t13\t1\t1\tFirstPath\n";
+
+fn lower(alloc: Global, budget: &str, text: &[u8]) -> Result<Outcome, Fail> {
+    run(
+        alloc,
+        ["lower", "base", budget].as_slice(),
+        text,
+        Ports::honest(),
+    )
+}
 
 /// Two qubits with lives that don't overlap.
 fn two_allocations(alloc: Global) -> Result<Bytes, Memory> {
@@ -56,12 +65,7 @@ fn two_allocations_get_two_numbers(rt: HostRuntime) -> Result<(), Fail> {
         assert_eq!(rt; done.written.as_slice(), expected.as_slice());
         assert!(rt; done.left.is_empty());
     }
-    let over = run(
-        alloc,
-        ["lower", "base", "6"].as_slice(),
-        text.as_slice(),
-        Ports::honest(),
-    )?;
+    let over = lower(alloc, "6", text.as_slice())?;
     assert_eq!(rt; over.status, Status::Refused);
     assert_eq!(rt;
         over.written.as_slice(),
@@ -71,7 +75,24 @@ fn two_allocations_get_two_numbers(rt: HostRuntime) -> Result<(), Fail> {
 }
 
 #[test]
-fn allocations_come_after_the_required_qubits(rt: HostRuntime) -> Result<(), Fail> {
+fn an_allocation_comes_after_the_required_qubits(rt: HostRuntime) -> Result<(), Fail> {
+    let alloc = rt.alloc();
+    let text = text_of(
+        alloc,
+        "2",
+        "0",
+        [ALLOCATE_A, H_A, RELEASE_A, RET].as_slice(),
+    )?;
+    let gates = ["h__body(%Qubit* inttoptr (i64 2 to %Qubit*))"];
+    let expected = lowered(alloc, gates.as_slice(), [H].as_slice(), "3")?;
+    let done = lower(alloc, "4", text.as_slice())?;
+    assert_eq!(rt; done.status, Status::Done);
+    assert_eq!(rt; done.written.as_slice(), expected.as_slice());
+    Ok(())
+}
+
+#[test]
+fn fixed_and_allocated_qubits_stand_side_by_side(rt: HostRuntime) -> Result<(), Fail> {
     let alloc = rt.alloc();
     let body = [
         ALLOCATE_A,
@@ -87,12 +108,7 @@ fn allocations_come_after_the_required_qubits(rt: HostRuntime) -> Result<(), Fai
     ];
     let declares = ["cnot__body(%Qubit*, %Qubit*)", H];
     let expected = lowered(alloc, gates.as_slice(), declares.as_slice(), "3")?;
-    let done = run(
-        alloc,
-        ["lower", "base", "5"].as_slice(),
-        text.as_slice(),
-        Ports::honest(),
-    )?;
+    let done = lower(alloc, "5", text.as_slice())?;
     assert_eq!(rt; done.status, Status::Done);
     assert_eq!(rt; done.written.as_slice(), expected.as_slice());
     Ok(())
@@ -116,22 +132,12 @@ fn other_texts_are_refused(rt: HostRuntime) -> Result<(), Fail> {
         blanks(alloc, 4_194_304)?,
     ];
     for text in texts {
-        let refused = run(
-            alloc,
-            ["lower", "base", "7"].as_slice(),
-            text.as_slice(),
-            Ports::honest(),
-        )?;
+        let refused = lower(alloc, "7", text.as_slice())?;
         assert_eq!(rt; refused.status, Status::Refused);
         assert_eq!(rt; refused.written.as_slice(), FIRST_PATH);
     }
     let long = blanks(alloc, 4_194_305)?;
-    let refused = run(
-        alloc,
-        ["lower", "base", "7"].as_slice(),
-        long.as_slice(),
-        Ports::honest(),
-    )?;
+    let refused = lower(alloc, "7", long.as_slice())?;
     assert_eq!(rt; refused.status, Status::Refused);
     assert_eq!(rt;
         refused.written.as_slice(),

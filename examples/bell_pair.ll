@@ -1,0 +1,20 @@
+define i64 @main() #0 {
+entry:
+  call void @__quantum__qis__h__body(%Qubit* null)
+  call void @__quantum__qis__cnot__body(%Qubit* null, %Qubit* inttoptr (i64 1 to %Qubit*))
+  ret i64 0
+}
+declare void @__quantum__rt__initialize(i8*)
+declare %Qubit* @__quantum__rt__qubit_allocate()
+declare void @__quantum__rt__qubit_release(%Qubit*)
+declare i1 @__quantum__rt__read_result(%Result*)
+declare i1 @__quantum__rt__result_equal(%Result*, %Result*)
+declare void @__quantum__rt__result_record_output(%Result*, i8*)
+declare void @__quantum__qis__h__body(%Qubit*)
+declare void @__quantum__qis__x__body(%Qubit*)
+declare void @__quantum__qis__z__body(%Qubit*)
+declare void @__quantum__qis__cnot__body(%Qubit*, %Qubit*)
+declare void @__quantum__qis__phase__body(i64, %Qubit*)
+declare void @__quantum__qis__mz__body(%Qubit*, %Result*) #1
+attributes #0 = { "entry_point" "required_num_qubits"="2" "required_num_results"="0" }
+attributes #1 = { "irreversible" }

@@ -90,13 +90,13 @@ module _ (m : Module) (k : ℕ) (ins : List Inst) (S : IsSource m ins) where
   run-below (suc n) [] scope i d env hs es ans h a = by-tick n (source i env ans d hs es) _ (comes-back m ins S k scope i d env hs es ans h) (over-below k es a)
   run-below (suc n) (Allocate x ∷ lines) scope i d env hs es ans h a =
       by-tick n (source i env ans d hs es) _ (allocates m ins S k scope i d env hs es ans x lines h)
-          (run-below n lines (after_line scope (Allocate x)) (i + 1) (d + 1) (slice_set env d (Some (value.Alloc d))) (hs ++ d ∷ []) es ans (stands-allocated ins k scope lines i d env hs x h) a)
+      (run-below n lines (after_line scope (Allocate x)) (i + 1) (d + 1) (slice_set env d (Some (value.Alloc d))) (hs ++ d ∷ []) es ans (stands-allocated ins k scope lines i d env hs x h) a)
   run-below (suc n) (Release x ∷ lines) scope i d env hs es ans h a =
       by-tick n (source i env ans d hs es) _ (frees m ins S k scope i d env hs es ans x lines h)
-          (run-below n lines (after_line scope (Release x)) (i + 1) d env (but (number_of scope x) hs) es ans (stands-released ins k scope lines i d env hs x h) a)
+      (run-below n lines (after_line scope (Release x)) (i + 1) d env (but (number_of scope x) hs) es ans (stands-released ins k scope lines i d env hs x h) a)
   run-below (suc n) (Apply g q ∷ lines) scope i d env hs es ans h a =
       gate-below n i d env hs es _ ans (call-below k (name_text (apply g).name) scope (q ∷ []) (applied-fits ins k scope lines i d env hs g q h)) a (applies-gate m ins S k scope i d env hs es ans g q lines h)
-          (λ ans' es' a'. run-below n lines scope (i + 1) d env hs es' ans' (stands-applied ins k scope lines i d env hs g q h) a')
+      (λ ans' es' a'. run-below n lines scope (i + 1) d env hs es' ans' (stands-applied ins k scope lines i d env hs g q h) a')
   run-below (suc n) (Cnot p q ∷ lines) scope i d env hs es ans h a =
       gate-below n i d env hs es _ ans (call-below k (name_text cnot.name) scope (p ∷ q ∷ []) (controlled-fits ins k scope lines i d env hs p q h)) a (applies-cnot m ins S k scope i d env hs es ans p q lines h)
-          (λ ans' es' a'. run-below n lines scope (i + 1) d env hs es' ans' (stands-controlled ins k scope lines i d env hs p q h) a')
+      (λ ans' es' a'. run-below n lines scope (i + 1) d env hs es' ans' (stands-controlled ins k scope lines i d env hs p q h) a')

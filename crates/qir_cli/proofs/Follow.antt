@@ -33,7 +33,6 @@ use Rattle.qir_cli.specs.BaseTree.{lowered_gate, number_among}
 use Rattle.qir_cli.proofs.Gates.{gates, gate_call, AllFound}
 use Rattle.qir_cli.proofs.Moves.{at, Holds, apply, cnot, class-apply, class-cnot, apply-blocks, declared-move, refs, numbers, handle, refs-named, handles-have, handles-pass}
 use Rattle.qir_cli.proofs.Scopes.{but}
-
 use Rattle.qir_cli.proofs.Source.{IsSource, Stands, allocates, applies-cnot, applies-gate, comes-back, frees, source, stands-allocated, stands-applied, stands-controlled, stands-released, state, tick-is}
 
 -- the lowered module: its second block has these instructions, and then it returns

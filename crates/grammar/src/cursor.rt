@@ -39,7 +39,7 @@ pub struct Cursor<'a, T> {
 pub enum Halt<'a, T, R> {
     /// There is no memory left.
     Memory,
-    /// The first fault. The rest begins with it.
+    /// The first fault, and the tokens from it on: none where it is that they end.
     At(Fault<R>, &'a [T]),
 }
 

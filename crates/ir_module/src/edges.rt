@@ -44,7 +44,7 @@ impl<'a> Edges<'a> {
         }
     }
 
-    /// The block that edge `i` leads to, counted from 0.
+    /// The block that edge `i` leads to, counted from 0 and below the number of edges.
     pub fn at(&self, i: usize) -> BlockId
         requires { i < length self.now }
         ensures { slice_get self.now i ≡ Some result }

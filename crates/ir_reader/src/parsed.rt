@@ -35,15 +35,18 @@ impl ReadCode {
 /// A module and the places of its parts in the text that it was read from.
 #[derive(Debug, Drop)]
 pub struct Parsed {
+    /// The tree, without places.
     pub module: Module,
+    /// The place of each spot of the tree, by line and column.
     pub places: Places,
 }
 
-/// What stops a reader: the text is refused, at the place of the fault, or there is no memory for the
-/// module.
+/// What stops a reader.
 #[derive(Clone, Copy, Debug, PartialEq, Eq)]
 pub enum ReadStop {
+    /// The text is refused for this reason, at this place.
     Refused { code: ReadCode, place: Place },
+    /// Out of memory.
     Memory,
 }
 

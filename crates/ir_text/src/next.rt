@@ -19,7 +19,8 @@ use crate::tok::{LexError, Span, Tok};
 /// # Errors
 ///
 /// - `OpenString`, at the first byte of the token, where no quote ends its string.
-/// - `BadEscape`, at the first `\` of the token that neither a `\` nor two hexadecimal digits follow.
+/// - `BadEscape`, at the first `\` of the token that belongs to no escape before it, and that neither a
+///   `\` nor two hexadecimal digits follow.
 /// - `NumberTooWide`, at the first byte of an integer whose magnitude is 2^128 or more.
 /// - `BadByte`, at a byte with which no token begins here.
 ///

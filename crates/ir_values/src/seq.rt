@@ -75,7 +75,7 @@ impl<T> Seq<T> {
         self.items.as_slice()
     }
 
-    /// The item at index `i`, counted from 0.
+    /// The item at index `i`, counted from 0 and below the length.
     pub fn at(&self, i: usize) -> &T
         requires { i < length self.now }
         ensures { slice_get self.now i ≡ Some result.now }
@@ -92,7 +92,7 @@ impl<T> Seq<T> {
 }
 
 impl<T: Drop> Seq<T> {
-    /// Adds `x` last. [`Memory`] leaves the list as it was.
+    /// Adds `x` last. [`Memory`] leaves the list as it was, and `x` is dropped.
     pub fn push(&mut self, x: T) -> Result<(), Memory>
         ensures ok { OnOk result (self.new ≡ self.old ++ x ∷ []) }
         ensures err { OnErr result (self.new ≡ self.old) }
@@ -101,7 +101,7 @@ impl<T: Drop> Seq<T> {
         Ok(())
     }
 
-    /// Moves the items of `more` to the end. [`Memory`] leaves the list as it was.
+    /// Moves the items of `more` to the end. [`Memory`] leaves the list as it was, and `more` is dropped.
     pub fn append(&mut self, more: Seq<T>) -> Result<(), Memory>
         ensures ok { OnOk result (self.new ≡ self.old ++ more) }
         ensures err { OnErr result (self.new ≡ self.old) }
@@ -111,7 +111,7 @@ impl<T: Drop> Seq<T> {
         Ok(())
     }
 
-    /// Writes `x` at index `i`, counted from 0, in place of the item there.
+    /// Writes `x` at index `i`, counted from 0 and below the length, in place of the item there.
     pub fn set(&mut self, i: usize, x: T)
         requires { i < length self.old }
         ensures { self.new ≡ slice_set self.old i x }

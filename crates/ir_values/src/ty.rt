@@ -65,7 +65,8 @@ impl Ty {
 }
 
 impl Sig {
-    /// The type of the functions that give `ret` and take `params`.
+    /// The type of the functions that give `ret` and take `params`, fewer than 2^32. [`Memory`] comes
+    /// where there is none for its words.
     pub fn new(alloc: Global, ret: &Ty, params: &Tys) -> Result<Sig, Memory>
         requires { length params.now < 2 ^ 32 }
         ensures { IfOk result (λ s. s ≡ spec.signature ret.now params.now) }

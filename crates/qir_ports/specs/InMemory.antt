@@ -7,7 +7,7 @@ pub record SourceState : Type 0 where
   pub piece : ℕ  -- the most bytes that one call gives
   pub failing : List ℕ  -- the numbers of the calls that fail
   pub calls : ℕ  -- the calls so far, up to the last value of a u64
-  pub failures : ℕ  -- those of them that failed, up to the same value
+  pub faults : ℕ  -- those of them that failed, up to the same value
 
 pub record SinkState : Type 0 where
   pub taken : List ℕ  -- the bytes taken
@@ -15,7 +15,7 @@ pub record SinkState : Type 0 where
   pub room : ℕ  -- the most bytes that all calls take
   pub failing : List ℕ  -- the numbers of the calls that fail
   pub calls : ℕ  -- the calls so far, up to the last value of a u64
-  pub failures : ℕ  -- those of them that failed, up to the same value
+  pub faults : ℕ  -- those of them that failed, up to the same value
 
 -- whether the list numbers, from 1, the call after so many. A call after number 2^64 - 1 has no number
 abbrev pub next_fails : List ℕ → ℕ → Bool

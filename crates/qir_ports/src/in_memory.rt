@@ -22,7 +22,7 @@ pub struct MemSource {
     piece: usize,
     failing: Calls,
     calls: u64,
-    failures: u64,
+    faults: u64,
 }
 
 impl Model for MemSource {
@@ -36,7 +36,7 @@ impl Model for MemSource {
       piece = s.piece;
       failing = s.failing;
       calls = s.calls;
-      failures = s.failures;
+      faults = s.faults;
     } };
 
     ghost invariant = { λ s. (s.at ≤ length s.text) × (1 ≤ s.piece) };
@@ -52,7 +52,7 @@ impl MemSource {
           piece = piece;
           failing = failing;
           calls = 0;
-          failures = 0;
+          faults = 0;
         } }
     {
         MemSource {
@@ -61,7 +61,7 @@ impl MemSource {
             piece,
             failing,
             calls: 0,
-            failures: 0,
+            faults: 0,
         }
     }
 }
@@ -69,7 +69,7 @@ impl MemSource {
 impl Source for MemSource {
     ghost left = { λ s. Some s.rest };
 
-    ghost faults = { λ s. s.failures };
+    ghost faults = { λ s. s.faults };
 
     /// Gives the least of the buffer's length, `piece` and the number of bytes left. The rest of `buf`
     /// stays as it was. It fails exactly where the call has a number that `failing` lists, and a call
@@ -84,17 +84,17 @@ impl Source for MemSource {
         ensures err { OnErr result (self.new
             ≡ record self.old {
               calls = one_more self.old.calls;
-              failures = one_more self.old.failures;
+              faults = one_more self.old.faults;
             }) }
         ensures unwritten { OnErr result (buf.new ≡ buf.old) }
         ensures none_at_end { IfOk result (λ n.
             n ≡ 0 → 0 < length buf.old → self.old.rest ≡ []) }
-        ensures later { self.old.failures ≤ self.new.failures }
+        ensures later { self.old.faults ≤ self.new.faults }
     {
         let fails = next_fails(self.failing.as_slice(), self.calls);
         self.calls = self.calls.saturating_add(1);
         if fails {
-            self.failures = self.failures.saturating_add(1);
+            self.faults = self.faults.saturating_add(1);
             return Err(Failed);
         }
         let rest = &self.text.as_slice()[self.at..];
@@ -116,7 +116,7 @@ pub struct MemSink {
     room: usize,
     failing: Calls,
     calls: u64,
-    failures: u64,
+    faults: u64,
 }
 
 impl Model for MemSink {
@@ -131,7 +131,7 @@ impl Model for MemSink {
       room = k.room;
       failing = k.failing;
       calls = k.calls;
-      failures = k.failures;
+      faults = k.faults;
     } };
 
     ghost invariant = { λ k. (1 ≤ k.piece) × (length k.kept.items ≤ k.room)
@@ -149,7 +149,7 @@ impl MemSink {
           room = room;
           failing = failing;
           calls = 0;
-          failures = 0;
+          faults = 0;
         }) }
     {
         let mut kept = Room::new(alloc);
@@ -160,7 +160,7 @@ impl MemSink {
             room,
             failing,
             calls: 0,
-            failures: 0,
+            faults: 0,
         })
     }
 
@@ -175,7 +175,7 @@ impl MemSink {
 impl Sink for MemSink {
     ghost taken = { λ k. Some k.taken };
 
-    ghost faults = { λ k. k.failures };
+    ghost faults = { λ k. k.faults };
 
     /// Takes the least of the number of `bytes`, `piece` and the room left, and no memory. It fails
     /// exactly where `bytes` is not empty and either the call has a number that `failing` lists or no
@@ -193,16 +193,16 @@ impl Sink for MemSink {
         ensures err { OnErr result (self.new
             ≡ record self.old {
               calls = one_more self.old.calls;
-              failures = one_more self.old.failures;
+              faults = one_more self.old.faults;
             }) }
         ensures some { IfOk result (λ n. 0 < length bytes.now → 0 < n) }
-        ensures later { self.old.failures ≤ self.new.failures }
+        ensures later { self.old.faults ≤ self.new.faults }
     {
         let fails = next_fails(self.failing.as_slice(), self.calls);
         self.calls = self.calls.saturating_add(1);
         let room = self.room - self.kept.as_slice().len();
         if !bytes.is_empty() && (fails || room == 0) {
-            self.failures = self.failures.saturating_add(1);
+            self.faults = self.faults.saturating_add(1);
             return Err(Failed);
         }
         let n = bytes.len().min(self.piece).min(room);

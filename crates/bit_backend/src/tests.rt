@@ -190,7 +190,7 @@ fn bits_follow_the_history(rt: HostRuntime) -> Result<(), Fail> {
         ("x:0 h:0 mz:0r", ".-1"),
         ("x:0 cnot:00 swap:00 mz:0r", ".--1"),
         // A fixed qubit is not an allocated one of the same number.
-        ("x:a mz:0r mz:ar swap:0a mz:0r mz:ar", ".01.10"),
+        ("x:a mz:ar mz:0r swap:0a mz:0r mz:ar", ".10.10"),
         ("x:0 swap:01 cx:12 ccx:120 mz:0r mz:1r mz:2r", "....111"),
     ];
     for (words, answers) in rows {

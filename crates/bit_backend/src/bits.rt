@@ -27,9 +27,10 @@ use std::marker::Model;
 /// - `mz` and `m` of a qubit and a result answer the qubit's bit.
 /// - `mresetz` of a qubit and a result answers the qubit's bit and sets it to 0.
 ///
-/// Every other operation is refused as [`Stop::Unsupported`]. [`Stop::Memory`] comes only where there was
-/// none for the table or for the events, and no other refusal comes. What is refused is handed back and
-/// changes nothing. An operation looks up its own qubits alone, and goes over no other qubit and no event.
+/// Every other operation is refused as [`Stop::Unsupported`]. One that it can do may be refused as
+/// [`Stop::Memory`], since no room is promised, and no other refusal comes. What is refused is handed back
+/// and changes nothing. But where the table or the list of events grows, an operation goes over no qubit
+/// that it doesn't name and over no event.
 ///
 /// Contracts see the events that it answered. They fit: each is an operation that it can do, with the
 /// answer after the events before it.

@@ -1,2 +1,4 @@
 pub mod Known
+pub mod Offers
 pub mod InMemory
+pub mod Streams

@@ -1,6 +1,6 @@
 //! A source and a sink in memory, which tell their bytes and can be told to fail.
 ghost use Rattle.std.specs.Prelude.{◌≡◌, ◌+◌, ◌-◌, ◌<◌, ◌≤◌, ◌++◌, [], ◌&&◌, ◌||◌, ◌==◌, not, length, take, drop, min, is_err, Some, IfOk, OnErr, OnOk};
-ghost use Rattle.qir_ports.specs.InMemory.{next_fails};
+ghost use Rattle.qir_ports.specs.InMemory.{MemWrite, next_fails};
 ghost use Rattle.ir_values.specs.Counts.{one_more};
 
 use crate::port::{Failed, Sink, Source};
@@ -177,24 +177,13 @@ impl Sink for MemSink {
 
     ghost faults = { λ k. k.faults };
 
+    ghost may_write = { MemWrite };
+
     /// Takes the least of the number of `bytes`, `piece` and the room left, and no memory. It fails
     /// exactly where `bytes` is not empty and either the call has a number that `failing` lists or no
     /// room is left. Empty `bytes` are a call too, at which nothing is taken.
     fn write(&mut self, bytes: &[u8]) -> Result<usize, Failed>
-        ensures fails { is_err result ≡ not (length bytes.now == 0)
-            && (next_fails self.old.failing self.old.calls
-            || (length self.old.taken == self.old.room)) }
-        ensures count { IfOk result (λ n. n
-            ≡ min (length bytes.now) (min self.old.piece (self.old.room - length self.old.taken))) }
-        ensures ok { IfOk result (λ n. self.new ≡ record self.old {
-          taken = self.old.taken ++ take n bytes.now;
-          calls = one_more self.old.calls;
-        }) }
-        ensures err { OnErr result (self.new
-            ≡ record self.old {
-              calls = one_more self.old.calls;
-              faults = one_more self.old.faults;
-            }) }
+        ensures writes { MemWrite self.old bytes.now result self.new }
         ensures some { IfOk result (λ n. 0 < length bytes.now → 0 < n) }
         ensures later { self.old.faults ≤ self.new.faults }
     {

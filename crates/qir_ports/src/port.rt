@@ -1,5 +1,6 @@
 //! Sources and sinks of bytes.
-ghost use Rattle.std.specs.Prelude.{◌≡◌, ℕ, ◌<◌, ◌≤◌, List, length, take, Option, IfOk, OnErr};
+ghost use Rattle.std.specs.Prelude.{◌≡◌, ℕ, ◌<◌, ◌≤◌, List, length, take, Option, ⊤, IfOk, OnErr};
+ghost use Rattle.std.specs.declared.result.Result.{Result};
 ghost use Rattle.ir_values.specs.Counts.{Rose};
 ghost use Rattle.qir_ports.specs.Known.{Gives, Takes, IsAtEnd};
 
@@ -41,11 +42,17 @@ pub trait Source {
 /// one that does not never does. It counts its faults from 0. The count never falls, and stands still
 /// at `u64::MAX`. It rises where a call fails, and it may rise where one does not.
 pub trait Sink {
+    ghost use Rattle.qir_ports.specs.declared.port.Failed.{Failed};
+
     /// The bytes that it took, where it tells them.
     ghost taken: { Self → Option (List ℕ) };
 
     /// How many faults it had.
     ghost faults: { Self → ℕ };
+
+    /// What a write may do, beside what is said of every sink: the sink before it, the bytes that it is
+    /// offered, its answer, and the sink after it. A sink that leaves it out may do anything.
+    ghost may_write: { Self → List ℕ → Result ℕ Failed → Self → Type 0 } = { λ _ _ _ _. ⊤ };
 
     /// Takes the first of `bytes`, and answers how many: at least one, unless `bytes` is empty.
     /// [`Failed`] counts a fault, and takes none.
@@ -55,5 +62,6 @@ pub trait Sink {
         ensures takes { IfOk result (λ n. Takes (taken self.old) (take n bytes.now) (taken self.new)) }
         ensures counts { OnErr result (Rose (faults self.old) (faults self.new)) }
         ensures keeps { OnErr result (taken self.new ≡ taken self.old) }
+        ensures writes { may_write self.old bytes.now result self.new }
         ensures later { faults self.old ≤ faults self.new };
 }

@@ -1,9 +1,10 @@
+ghost use Rattle.std.specs.Prelude.{◌≤◌, false, refl, IfOk};
+
 use super::*;
 use ir_values::{Bytes, Memory};
 use std::alloc::Global;
-use std::fmt::Display;
 use std::io;
-use std::io::{ErrorKind, Read};
+use std::io::{ErrorKind, Read, Write};
 use std::test::Fail;
 
 fn text_of(alloc: Global, len: usize) -> Result<Bytes, Memory> {
@@ -99,15 +100,17 @@ fn a_text_is_written_to_its_end_or_to_a_failure(rt: HostRuntime) -> Result<(), F
     Ok(())
 }
 
-/// Reads as many bytes as it holds, and fails then. Prints nothing.
+/// Reads and writes as many bytes as it is good for, and fails then.
 #[derive(Drop)]
 struct Broken {
     good: usize,
 }
 
-impl Read for Broken {
-    fn read(&mut self, buf: &mut [u8]) -> io::Result<usize> {
-        let n = self.good.min(buf.len());
+impl Broken {
+    fn spend(&mut self, most: usize) -> io::Result<usize>
+        ensures { IfOk result (λ n. n ≤ most) }
+    {
+        let n = self.good.min(most);
         if n == 0 {
             return Err(io::Error::from(ErrorKind::BrokenPipe));
         }
@@ -116,22 +119,32 @@ impl Read for Broken {
     }
 }
 
-impl Print for Broken {
-    fn print<D: Display + Drop>(&self, _value: D) -> io::Result<()> {
-        Err(io::Error::from(ErrorKind::BrokenPipe))
+impl Read for Broken {
+    fn read(&mut self, buf: &mut [u8]) -> io::Result<usize> {
+        self.spend(buf.len())
+    }
+}
+
+impl SteadyRead for Broken {
+    ghost tells = { false };
+
+    ghost steady = { λ _. refl };
+}
+
+impl Write for Broken {
+    fn write(&mut self, buf: &[u8]) -> io::Result<usize> {
+        self.spend(buf.len())
     }
 
-    fn println<D: Display + Drop>(&self, _value: D) -> io::Result<()> {
-        Err(io::Error::from(ErrorKind::BrokenPipe))
+    fn flush(&mut self) -> io::Result<()> {
+        Ok(())
     }
+}
 
-    fn write_all(&self, _bytes: &[u8]) -> io::Result<()> {
-        Err(io::Error::from(ErrorKind::BrokenPipe))
-    }
+impl SteadyWrite for Broken {
+    ghost tells = { false };
 
-    fn write_some(&self, bytes: &[u8]) -> io::Result<usize> {
-        Ok(self.good.min(bytes.len()))
-    }
+    ghost steady = { λ _. refl };
 }
 
 #[test]
@@ -143,16 +156,26 @@ fn a_fault_of_a_stream_is_a_failure(rt: HostRuntime) -> Result<(), Fail> {
     assert_eq!(rt; source.read(&mut buffer), Err(Failed));
     let mut sink = StdSink::new(Broken { good: 3 });
     assert_eq!(rt; sink.write(b"four"), Ok(3));
-    let mut sink = StdSink::new(Broken { good: 0 });
     assert_eq!(rt; sink.write(b"four"), Err(Failed));
     assert_eq!(rt; sink.write(b""), Ok(0));
     Ok(())
 }
 
 #[test]
+fn a_reader_and_a_writer_are_a_source_and_a_sink(rt: HostRuntime) -> Result<(), Fail> {
+    let alloc = rt.alloc();
+    let mut source = StdSource::new(b"a text".as_slice());
+    let text = read_all(alloc, &mut source, 6)?;
+    assert_eq!(rt; text.as_slice(), b"a text".as_slice());
+    let mut sink = StdSink::new(Vec::new(alloc));
+    assert_eq!(rt; write_all(&mut sink, text.as_slice()), Ok(()));
+    Ok(())
+}
+
+#[test]
 fn the_standard_streams_are_a_source_and_a_sink(rt: HostRuntime) -> Result<(), Fail> {
     let _source = StdSource::new(rt.reader());
-    let mut sink = StdSink::new(&rt);
+    let mut sink = StdSink::new(rt.stdout());
     assert_eq!(rt; write_all(&mut sink, b""), Ok(()));
     Ok(())
 }

@@ -2,6 +2,7 @@
 ghost use Rattle.std.specs.Prelude.{◌≡◌, ◌+◌, ◌^◌, ◌<◌, ◌≤◌, [], length, take, vec_len, IfOk, OnOk, OnErr, IfErr};
 ghost use Rattle.ir_values.specs.Counts.{Rose};
 ghost use Rattle.qir_ports.specs.Known.{Gives, Takes, IsAtEnd, GivesAll, GivesTooMany, GivesUpTo};
+ghost use Rattle.qir_ports.specs.Offers.{Offers, OffersToFailure};
 ghost use Rattle.qir_ports.specs.declared.transfer.ReadError.TheVariants as error;
 
 use crate::port::{Failed, Sink, Source};
@@ -102,7 +103,8 @@ fn zeros(alloc: Global) -> Result<Vec<u8>, Memory>
     Ok(vec![in alloc; 0; PIECE]?)
 }
 
-/// Writes all of `bytes` to `k`, and takes no memory. Empty `bytes` make no call.
+/// Writes all of `bytes` to `k`, and takes no memory. Each call is offered all that is not written yet,
+/// and empty `bytes` make no call.
 ///
 /// [`WriteStop`] comes where a write failed. Exactly the first `written` bytes were then written, and
 /// they are not all.
@@ -112,6 +114,9 @@ pub fn write_all<K: Sink>(k: &mut K, bytes: &[u8]) -> Result<(), WriteStop>
     ensures written { IfErr result (λ stop.
         Takes (K.taken k.old) (take stop.written bytes.now) (K.taken k.new)) }
     ensures not_all { IfErr result (λ stop. stop.written < length bytes.now) }
+    ensures offers { OnOk result (Offers K.may_write k.old bytes.now (length bytes.now) k.new) }
+    ensures offers_to_failure { IfErr result (λ stop.
+        OffersToFailure K.may_write k.old bytes.now stop.written k.new) }
     ensures empty { bytes.now ≡ [] → k.new ≡ k.old }
     ensures later { K.faults k.old ≤ K.faults k.new }
 {

@@ -15,7 +15,7 @@ pub struct Edges<'a> {
 
 impl<'a> Model for Edges<'a> {
     ghost use Rattle.std.specs.Prelude.{List};
-    ghost use Rattle.ir_values.specs.declared.value.BlockId.{BlockId};
+    ghost use Rattle.ir_values.specs.declared.ids.BlockId.{BlockId};
     ghost use Rattle.ir_module.specs.Edges.{edges};
 
     ghost Value = { List BlockId };

@@ -17,10 +17,10 @@ use Rattle.ir_module.specs.declared.tree.Term.TheVariants as term
 use Rattle.ir_values.specs.declared.int.Width.TheVariants.{W1, W64}
 use Rattle.ir_values.specs.declared.ty.Ty.{Ty}
 use Rattle.ir_values.specs.declared.ty.Ty.TheVariants as ty
-use Rattle.ir_values.specs.declared.value.FuncId.{FuncId}
-use Rattle.ir_values.specs.declared.value.LocalId.{LocalId}
-use Rattle.ir_values.specs.declared.value.Name.{Name}
-use Rattle.ir_values.specs.declared.value.Name.TheVariants as name
+use Rattle.ir_values.specs.declared.ids.FuncId.{FuncId}
+use Rattle.ir_values.specs.declared.ids.LocalId.{LocalId}
+use Rattle.ir_values.specs.declared.name.Name.{Name}
+use Rattle.ir_values.specs.declared.name.Name.TheVariants as name
 use Rattle.ir_values.specs.declared.value.Value.{Value}
 use Rattle.ir_values.specs.declared.value.Value.TheVariants as value
 use Rattle.ir_values.specs.Calls.{same_text, rt, qis}

@@ -8,7 +8,7 @@ use Rattle.ir_module.specs.declared.tree.Function.{Function}
 use Rattle.ir_module.specs.declared.tree.Inst.{Inst}
 use Rattle.ir_module.specs.declared.tree.Operand.TheVariants as operand
 use Rattle.ir_module.specs.declared.tree.Term.TheVariants as term
-use Rattle.ir_values.specs.declared.value.Name.TheVariants as name
+use Rattle.ir_values.specs.declared.name.Name.TheVariants as name
 use Rattle.ir_reader.specs.declared.line.Line.{Line}
 use Rattle.ir_values.specs.declared.int.Width.TheVariants.{W1, W64}
 use Rattle.ir_values.specs.declared.ty.Ty.TheVariants as ty

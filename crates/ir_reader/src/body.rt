@@ -2,7 +2,7 @@
 ghost use Rattle.std.specs.Prelude.{◌≡◌, ◌∷◌, [], true, false, map, MatchResult, IfOk};
 ghost use Rattle.ir_module.specs.declared.tree.Callee.TheVariants as callee;
 ghost use Rattle.ir_module.specs.declared.tree.InstKind.TheVariants as kind;
-ghost use Rattle.ir_values.specs.declared.value.Name.TheVariants as name;
+ghost use Rattle.ir_values.specs.declared.name.Name.TheVariants as name;
 ghost use Rattle.ir_values.specs.declared.ty.Ty.TheVariants as ty;
 ghost use Rattle.ir_reader.specs.FirstText.{qubit_fits, line_fits, lines_fit, after_line};
 ghost use Rattle.ir_reader.specs.FirstTree.{function_id, gate_function, qubit_operand, call_inst, inst_of, insts_of, names_of};

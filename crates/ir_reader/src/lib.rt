@@ -16,7 +16,6 @@ mod tree;
 pub use line::{Gate, Line, Qubit};
 pub use one_block::read;
 pub use parsed::{Parsed, ReadCode, ReadStop};
-pub use scan::plain_number;
 
 #[cfg(test)]
 mod tests;

@@ -5,8 +5,7 @@ ghost use Rattle.ir_reader.specs.FirstText.{is_letter, is_name};
 ghost use Rattle.ir_reader.specs.Heads.{strip, is_digit, is_past};
 ghost use Rattle.ir_reader.specs.declared.scan.Stop.TheVariants as stop;
 
-use ir_values::{Bytes, Memory, Seq};
-use itoa::Buffer;
+use ir_values::{Bytes, Memory, Seq, parse_decimal};
 use std::alloc::Global;
 
 /// Why a text is not read: it is no text of one block, or there is no memory for its tree.
@@ -88,30 +87,12 @@ pub(crate) fn name(alloc: Global, text: &[u8]) -> Result<(Bytes, &[u8]), Stop>
     Ok((name, rest))
 }
 
-/// The number below 2^64 whose decimal digits the word is, without a sign and without a leading zero
-/// before another digit. None exactly where there is no such number. It takes no memory.
-pub fn plain_number(word: &[u8]) -> Option<u64>
-    ensures sound { IfSome result (λ n. word.now ≡ decimal n) }
-    ensures complete { (n : ℕ) → n < 2 ^ 64 → word.now ≡ decimal n → result ≡ Some n }
-{
-    let Ok(text) = str::from_utf8(word) else {
-        return None;
-    };
-    let Ok(n) = text.parse::<u64>() else {
-        return None;
-    };
-    if Buffer::new().format(n).as_bytes() != word {
-        return None;
-    }
-    Some(n)
-}
-
 /// The digits at the head, where they spell a number below 2^64 without a leading zero.
 pub(crate) fn number(text: &[u8]) -> Option<(u64, &[u8])>
     ensures sound { IfSome result (λ r. text.now ≡ decimal r.0 ++ r.1.now) }
     ensures complete { (n : ℕ) (rest : List ℕ) → n < 2 ^ 64 → is_past is_digit rest ≡ true → text.now ≡ decimal n ++ rest → IsSomeAnd result (λ r. (r.0 ≡ n) × (r.1.now ≡ rest)) }
 {
     let (word, rest) = text.split_at(digits(text));
-    let n = plain_number(word)?;
+    let n = parse_decimal(word)?;
     Some((n, rest))
 }

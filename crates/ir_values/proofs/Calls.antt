@@ -3,7 +3,7 @@ use Rattle.std.proofs.Common.{◌≡◌, refl, [], ◌∷◌}
 use Rattle.std.specs.Prelude.{None, Some, codes}
 use Rattle.ir_values.specs.declared.int.Width.TheVariants.{W64}
 use Rattle.ir_values.specs.declared.sig.TyWord.TheVariants as word
-use Rattle.ir_values.specs.declared.value.Class.TheVariants as class
+use Rattle.ir_values.specs.declared.class.Class.TheVariants as class
 use Rattle.ir_values.specs.Calls.{class_of, gives, rt, qis}
 
 initialize : class_of (rt (codes "initialize")) (gives word.Void (word.Text ∷ [])) ≡ Some class.Init

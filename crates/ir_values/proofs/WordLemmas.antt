@@ -2,6 +2,7 @@
 use Rattle.std.proofs.Common.{◌≡◌, ℕ, zero, suc, Bool, true, false, ◌&&◌, List, refl, ap, ◌∙◌, sym, subst}
 use Rattle.std.specs.Prelude.{if◌then◌else◌, ◌==◌}
 use Rattle.std.specs.Bool.{Decides}
+use Rattle.std.proofs.lemmas.Bool.{and_parts}
 use Rattle.std.specs.Cmp.{unsigned_Decides}
 use Rattle.std.specs.Cmp.Lexicographic.{pointwise, pointwise_decides}
 use Rattle.ir_values.specs.declared.int.Width.{Width}
@@ -11,11 +12,6 @@ use Rattle.ir_values.specs.declared.sig.TyWord.TheVariants as word
 use Rattle.ir_values.specs.Width.{bits_of}
 use Rattle.ir_values.specs.Calls.{word_code, same_word, same_words}
 use Rattle.ir_values.specs.Equal.{same_test}
-
-both_true : (a b : Bool) → (a && b) ≡ true → (a ≡ true) × (b ≡ true)
-both_true true true e = (refl, refl)
-both_true true false e = cc
-both_true false b e = cc
 
 width_from : ℕ → Width
 width_from n = if n == 1 then W1 else if n == 8 then W8 else if n == 16 then W16 else if n == 32 then W32 else W64
@@ -49,7 +45,7 @@ word_is (word.Func n) = refl
 
 equal_from_code : (a b : TyWord) → same_word a b ≡ true → a ≡ b
 equal_from_code a b e =
-    let both = both_true ((word_code a).0 == (word_code b).0) ((word_code a).1 == (word_code b).1) e in
+    let both = and_parts ((word_code a).0 == (word_code b).0) ((word_code a).1 == (word_code b).1) e in
     let kind = (unsigned_Decides (word_code a).0 (word_code b).0).0 both.0 in
     let number = (unsigned_Decides (word_code a).1 (word_code b).1).0 both.1 in
     sym (word_is a) ∙ (ap (λ k. word_from k (word_code a).1) kind ∙ (ap (λ n. word_from (word_code b).0 n) number ∙ word_is b))
@@ -57,10 +53,13 @@ equal_from_code a b e =
 same_word-refl : (a : TyWord) → same_word a a ≡ true
 same_word-refl a = rw ((unsigned_Decides (word_code a).0 (word_code a).0).1 refl, (unsigned_Decides (word_code a).1 (word_code a).1).1 refl)
 
-same_word_decides : (a b : TyWord) → Decides (same_word a b) (a ≡ b)
+pub same_word_decides : (a b : TyWord) → Decides (same_word a b) (a ≡ b)
 same_word_decides a b = (equal_from_code a b, λ e. subst (λ z. same_word a z ≡ true) e (same_word-refl a))
+
+pub same_words_decides : (us vs : List TyWord) → Decides (same_words us vs) (us ≡ vs)
+same_words_decides us vs = pointwise_decides same_word_decides us vs
 
 -- two lists of words are compared alike by every test that decides equality
 pub same_words_is : (same : TyWord → TyWord → Bool) → ((a b : TyWord) → Decides (same a b) (a ≡ b)) → (xs ys : List TyWord) → pointwise same xs ys ≡ same_words xs ys
 same_words_is same decides xs ys =
-    same_test _ _ (pointwise_decides decides xs ys) (pointwise_decides same_word_decides xs ys)
+    same_test _ _ (pointwise_decides decides xs ys) (same_words_decides xs ys)

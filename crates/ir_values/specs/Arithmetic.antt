@@ -6,8 +6,8 @@ use Rattle.ir_values.specs.declared.int.Width.{Width}
 use Rattle.ir_values.specs.declared.int.BinOp.{BinOp}
 use Rattle.ir_values.specs.declared.int.BinOp.TheVariants as op
 use Rattle.ir_values.specs.declared.int.Flags.{Flags}
-use Rattle.ir_values.specs.declared.value.Cause.{Cause}
-use Rattle.ir_values.specs.declared.value.Cause.TheVariants.{DivZero, Overflow, Poison}
+use Rattle.ir_values.specs.declared.cause.Cause.{Cause}
+use Rattle.ir_values.specs.declared.cause.Cause.TheVariants.{DivZero, Overflow, Poison}
 use Rattle.ir_values.specs.declared.int.Pred.{Pred}
 use Rattle.ir_values.specs.declared.int.Pred.TheVariants as pred
 use Rattle.ir_values.specs.declared.int.Conv.{Conv}

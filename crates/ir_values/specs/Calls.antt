@@ -7,8 +7,9 @@ use Rattle.std.specs.Cmp.Lexicographic.{pointwise}
 use Rattle.ir_values.specs.declared.int.Width.TheVariants.{W1, W32, W64}
 use Rattle.ir_values.specs.declared.sig.TyWord.{TyWord}
 use Rattle.ir_values.specs.declared.sig.TyWord.TheVariants as word
-use Rattle.ir_values.specs.declared.value.Class.{Class}
-use Rattle.ir_values.specs.declared.value.Class.TheVariants as class
+use Rattle.ir_values.specs.declared.class.Class.{Class}
+use Rattle.ir_values.specs.declared.class.Class.TheVariants as class
+use Rattle.ir_values.specs.Names.{runtime_prefix, instruction_prefix}
 use Rattle.ir_values.specs.Width.{bits_of}
 
 -- a function of this name with these types has this class
@@ -17,11 +18,13 @@ pub record Row : Type 0 where
   pub words : List TyWord
   pub class : Class
 
+-- the runtime function of this name
 abbrev pub rt : List ℕ → List ℕ
-rt name = codes "__quantum__rt__" ++ name
+rt name = runtime_prefix ++ name
 
+-- the quantum instruction of this name
 abbrev pub qis : List ℕ → List ℕ
-qis name = codes "__quantum__qis__" ++ name
+qis name = instruction_prefix ++ name
 
 -- the words of the type of functions that give `ret` and take `params`, each of one word
 abbrev pub gives : TyWord → List TyWord → List TyWord
@@ -86,7 +89,7 @@ is_operand word.Res = true
 is_operand word.Text = false
 is_operand (word.Func n) = false
 
--- a quantum instruction that isn't known by its name: a measurement where it has one result, a gate where it has none
+-- a quantum instruction that isn't known by its name: a measurement where it takes one result, a gate where it takes none
 abbrev pub class_of_params : List TyWord → Option Class
 class_of_params params =
     if not (list_all is_operand params) then None
@@ -99,7 +102,7 @@ class_of_words (word.Func n ∷ word.Void ∷ params) = class_of_params params
 class_of_words words = None
 
 abbrev pub class_of_unknown : List ℕ → List TyWord → Option Class
-class_of_unknown name words = if starts_with nat_eq name (qis []) then class_of_words words else None
+class_of_unknown name words = if starts_with nat_eq name instruction_prefix then class_of_words words else None
 
 -- the class of a declared function, by its name and the words of its type
 unfoldable pub class_of : List ℕ → List TyWord → Option Class

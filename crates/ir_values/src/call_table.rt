@@ -4,12 +4,21 @@ ghost use Rattle.std.specs.List.{list_all, list_any};
 ghost use Rattle.std.specs.List as list;
 ghost use Rattle.std.specs.Option.{option_map};
 ghost use Rattle.ir_values.specs.Calls as spec;
-ghost use Rattle.ir_values.specs.CallRows as table;
+ghost use Rattle.ir_values.specs.code.CallRows as table;
 
 use crate::Bytes;
+use crate::class::Class;
 use crate::int::Width;
 use crate::sig::{Sig, TyWord};
-use crate::value::Class;
+
+/// What the names of all runtime functions and quantum instructions begin with.
+pub const QUANTUM_PREFIX: &[u8] = b"__quantum__";
+
+/// What the names of runtime functions begin with (QIR specification, 'Runtime Functions').
+pub const RUNTIME_PREFIX: &[u8] = b"__quantum__rt__";
+
+/// What the names of quantum instructions begin with (QIR specification, 'Quantum Instruction Set').
+pub const INSTRUCTION_PREFIX: &[u8] = b"__quantum__qis__";
 
 /// A function of this name and of the type that these words spell has this class.
 struct Row<'a> {
@@ -160,7 +169,7 @@ pub fn call_class(name: &Bytes, sig: &Sig) -> Option<Class>
     let words = sig.words().as_slice();
     if is_known_name(name) {
         class_of_known(name, words)
-    } else if name.starts_with(b"__quantum__qis__") {
+    } else if name.starts_with(INSTRUCTION_PREFIX) {
         class_of_words(words)
     } else {
         None

@@ -7,8 +7,8 @@ mod bitwise;
 mod division;
 mod shifts;
 
+use crate::cause::Cause;
 use crate::int::{BinOp, Flags, Int};
-use crate::value::Cause;
 
 impl BinOp {
     /// Whether the flags may stand on the operation: `nuw` and `nsw` on `Add`, `Sub`, `Mul` and `Shl`,

@@ -1,5 +1,5 @@
 //! The list of the whole project, over a `Vec`.
-ghost use Rattle.std.specs.Prelude.{◌≡◌, ◌<◌, ◌↔◌, [], ◌∷◌, ◌++◌, length, slice_get, slice_set, IsTrue, OnOk, OnErr, MatchOption};
+ghost use Rattle.std.specs.Prelude.{◌≡◌, ◌<◌, ◌↔◌, [], ◌∷◌, ◌++◌, length, slice_get, slice_set, IsTrue, OnOk, OnErr, IfOk, MatchOption};
 ghost use Rattle.std.specs.Hash as fed;
 ghost use Rattle.std.specs.Coded.{coded_list};
 ghost use Rattle.std.proofs.Common.{ap};
@@ -121,6 +121,15 @@ impl<T: Drop> Seq<T> {
 }
 
 impl<T: Copy + Drop> Seq<T> {
+    /// The list of a slice's items.
+    pub fn from_slice(alloc: Global, items: &[T]) -> Result<Seq<T>, Memory>
+        ensures { IfOk result (λ s. s ≡ items.now) }
+    {
+        Ok(Seq {
+            items: Vec::from_slice(alloc, items)?,
+        })
+    }
+
     /// Adds the items of a slice last. [`Memory`] leaves the list as it was.
     pub fn extend_from_slice(&mut self, more: &[T]) -> Result<(), Memory>
         ensures ok { OnOk result (self.new ≡ self.old ++ more.now) }

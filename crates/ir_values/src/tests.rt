@@ -2,12 +2,6 @@ use super::*;
 use std::alloc::Global;
 use std::test::Fail;
 
-fn bytes(alloc: Global, text: &[u8]) -> Result<Bytes, Memory> {
-    let mut bytes = Bytes::new(alloc);
-    bytes.extend_from_slice(text)?;
-    Ok(bytes)
-}
-
 #[test]
 fn doubles_are_spelled_so(rt: HostRuntime) -> Result<(), Fail> {
     let cases: [(&[u8], bool); 14] = [
@@ -27,7 +21,7 @@ fn doubles_are_spelled_so(rt: HostRuntime) -> Result<(), Fail> {
         (b"-0x0123456789abcdef", false),
     ];
     for (text, expected) in cases {
-        match Token::new(bytes(rt.alloc(), text)?) {
+        match Token::new(Bytes::from_slice(rt.alloc(), text)?) {
             Some(token) => {
                 assert!(rt; expected);
                 assert_eq!(rt; token.as_slice(), text);
@@ -97,10 +91,45 @@ fn lists_and_rooms_hold_their_items(rt: HostRuntime) -> Result<(), Fail> {
 #[test]
 fn equal_values_are_one(rt: HostRuntime) -> Result<(), Fail> {
     let alloc = rt.alloc();
-    let name = Name::Text(bytes(alloc, b"q")?);
+    let name = Name::Text(Bytes::from_slice(alloc, b"q")?);
     assert!(rt; name.same(&name.copy(alloc)?));
     assert!(rt; !name.same(&Name::Number(1)));
     assert!(rt; !Value::Id(3).same(&Value::Alloc(3)));
     assert!(rt; Value::Label(GlobalId(2)).same(&Value::Label(GlobalId(2))));
+    Ok(())
+}
+
+#[test]
+fn decimals_are_read_and_written(rt: HostRuntime) -> Result<(), Fail> {
+    let cases: [(&[u8], Option<u64>); 9] = [
+        (b"0", Some(0)),
+        (b"10", Some(10)),
+        (b"18446744073709551615", Some(u64::MAX)),
+        (b"18446744073709551616", None),
+        (b"", None),
+        (b"01", None),
+        (b"+1", None),
+        (b"-1", None),
+        (b"1 ", None),
+    ];
+    for (text, expected) in cases {
+        assert_eq!(rt; parse_decimal(text), expected);
+    }
+    let mut text = Bytes::new(rt.alloc());
+    push_decimal(
+        &mut text,
+        340_282_366_920_938_463_463_374_607_431_768_211_455,
+    )?;
+    push_signed(&mut text, -9_223_372_036_854_775_808)?;
+    let expected = b"340282366920938463463374607431768211455-9223372036854775808";
+    assert_eq!(rt; text.as_slice(), expected.as_slice());
+    Ok(())
+}
+
+#[test]
+fn a_name_has_the_text_that_it_was_given(rt: HostRuntime) -> Result<(), Fail> {
+    let name = Name::Text(Bytes::from_slice(rt.alloc(), b"main")?);
+    assert_eq!(rt; name.text(), b"main".as_slice());
+    assert_eq!(rt; Name::Number(7).text(), b"".as_slice());
     Ok(())
 }

@@ -2,8 +2,8 @@
 -- and block, 0 and predecessor of an edge.
 use Rattle.std.specs.Prelude.{ℕ, ◌+◌, List, [], ◌∷◌, ◌++◌, length, map, slice_get, Option, None, Some, if◌then◌else◌}
 use Rattle.std.specs.Option.{option_to_list}
-use Rattle.ir_values.specs.declared.value.BlockId.{BlockId}
-use Rattle.ir_values.specs.declared.value.LocalId.{LocalId}
+use Rattle.ir_values.specs.declared.ids.BlockId.{BlockId}
+use Rattle.ir_values.specs.declared.ids.LocalId.{LocalId}
 use Rattle.ir_module.specs.declared.tree.Block.{Block}
 use Rattle.ir_module.specs.declared.tree.Inst.{Inst}
 use Rattle.ir_module.specs.declared.tree.Operand.{Operand}

@@ -1,7 +1,7 @@
 -- What the tables of a flow answer, and when they are right for a function.
 use Rattle.std.specs.Prelude.{◌≡◌, ◌↔◌, Bool, true, slice_get, IsSome, IsSomeAnd}
-use Rattle.ir_values.specs.declared.value.FuncId.{FuncId}
-use Rattle.ir_values.specs.declared.value.LocalId.{LocalId}
+use Rattle.ir_values.specs.declared.ids.FuncId.{FuncId}
+use Rattle.ir_values.specs.declared.ids.LocalId.{LocalId}
 use Rattle.ir_module.specs.declared.places.Point.{Point}
 use Rattle.ir_module.specs.declared.tree.Function.{Function}
 use Rattle.ir_module.specs.declared.tree.Module.{Module}

@@ -1,7 +1,7 @@
 -- Walks through a function, and the names that are live at a point.
 use Rattle.std.specs.Prelude.{◌+◌, List, [], ◌∷◌, map, Contains}
-use Rattle.ir_values.specs.declared.value.BlockId.{BlockId}
-use Rattle.ir_values.specs.declared.value.LocalId.{LocalId}
+use Rattle.ir_values.specs.declared.ids.BlockId.{BlockId}
+use Rattle.ir_values.specs.declared.ids.LocalId.{LocalId}
 use Rattle.ir_module.specs.declared.places.Point.{Point}
 use Rattle.ir_module.specs.declared.tree.Function.{Function}
 use Rattle.ir_module.specs.Edges.{edges}

@@ -19,9 +19,9 @@ use Rattle.ir_reader.specs.FirstTree.{tree_of, main_function, declarations, inst
 use Rattle.ir_values.specs.declared.int.Width.TheVariants.{W64}
 use Rattle.ir_values.specs.declared.ty.Ty.{Ty}
 use Rattle.ir_values.specs.declared.ty.Ty.TheVariants as ty
-use Rattle.ir_values.specs.declared.value.Class.TheVariants as class
-use Rattle.ir_values.specs.declared.value.Name.{Name}
-use Rattle.ir_values.specs.declared.value.Name.TheVariants as name
+use Rattle.ir_values.specs.declared.class.Class.TheVariants as class
+use Rattle.ir_values.specs.declared.name.Name.{Name}
+use Rattle.ir_values.specs.declared.name.Name.TheVariants as name
 use Rattle.ir_values.specs.declared.value.Value.{Value}
 use Rattle.ir_values.specs.declared.value.Value.TheVariants as value
 use Rattle.qir_meaning.specs.Entry.{entry_of}

@@ -23,7 +23,7 @@ use Rattle.ir_reader.specs.FirstTree.{number_of}
 use Rattle.ir_values.specs.declared.value.Value.TheVariants as value
 use Rattle.qir_meaning.specs.Apart.{QubitBelow, qubits_of_run, results_of_run}
 use Rattle.qir_meaning.specs.Effects.{gate, operation}
-use Rattle.qir_meaning.specs.Moves.{name_text}
+use Rattle.ir_values.specs.Names.{name_text}
 use Rattle.qir_meaning.specs.Simulation.{Whole, Tick, run, tick, tick_of}
 use Rattle.qir_meaning.specs.State.{Env}
 use Rattle.qir_meaning.specs.Steps.{Outcome, Ended, Jam}

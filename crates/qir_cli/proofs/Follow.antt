@@ -17,11 +17,12 @@ use Rattle.ir_reader.specs.declared.line.Qubit.{Qubit}
 use Rattle.ir_reader.specs.FirstText.{Scope, after_line}
 use Rattle.ir_reader.specs.FirstTree.{number_of, function_id, gate_function, zero_code}
 use Rattle.ir_values.specs.declared.ty.Ty.TheVariants as ty
-use Rattle.ir_values.specs.declared.value.Class.TheVariants as class
-use Rattle.ir_values.specs.declared.value.FuncId.{FuncId}
+use Rattle.ir_values.specs.declared.class.Class.TheVariants as class
+use Rattle.ir_values.specs.declared.ids.FuncId.{FuncId}
 use Rattle.ir_values.specs.declared.value.Value.TheVariants as value
 use Rattle.qir_meaning.specs.Effects.{gate, operation}
-use Rattle.qir_meaning.specs.Moves.{move, does, name_text, class_of_function}
+use Rattle.ir_values.specs.Names.{name_text}
+use Rattle.qir_meaning.specs.Moves.{move, does, class_of_function}
 use Rattle.backend_api.specs.Naming.{Naming, named_op, named_event, named_events}
 use Rattle.qir_meaning.specs.Naming.{fixed_naming}
 use Rattle.qir_meaning.specs.Runs.{Asks}

@@ -11,7 +11,7 @@ use Rattle.ir_reader.specs.declared.line.Line.TheVariants.{Allocate, Release, Ap
 use Rattle.ir_reader.specs.declared.line.Qubit.{Qubit}
 use Rattle.ir_reader.specs.FirstText.{Scope, after_line}
 use Rattle.ir_reader.specs.FirstTree.{gate_function, function_id, insts_of, declarations}
-use Rattle.ir_values.specs.declared.value.FuncId.{FuncId}
+use Rattle.ir_values.specs.declared.ids.FuncId.{FuncId}
 use Rattle.qir_cli.specs.BaseGates.{GateCall, gate_of, is_called, first_calls}
 use Rattle.qir_cli.specs.BaseTree.{number_among}
 use Rattle.qir_cli.proofs.Moves.{apply, cnot, numbers}

@@ -25,16 +25,17 @@ use Rattle.ir_reader.specs.FirstText.{Scope, qubit_fits}
 use Rattle.ir_reader.specs.FirstTree.{number_of, qubit_operand, declaration}
 use Rattle.ir_values.specs.declared.ty.Ty.{Ty}
 use Rattle.ir_values.specs.declared.ty.Ty.TheVariants as ty
-use Rattle.ir_values.specs.declared.value.Class.{Class}
-use Rattle.ir_values.specs.declared.value.Class.TheVariants as class
-use Rattle.ir_values.specs.declared.value.FuncId.{FuncId}
-use Rattle.ir_values.specs.declared.value.LocalId.{LocalId}
-use Rattle.ir_values.specs.declared.value.Name.{Name}
+use Rattle.ir_values.specs.declared.class.Class.{Class}
+use Rattle.ir_values.specs.declared.class.Class.TheVariants as class
+use Rattle.ir_values.specs.declared.ids.FuncId.{FuncId}
+use Rattle.ir_values.specs.declared.ids.LocalId.{LocalId}
+use Rattle.ir_values.specs.declared.name.Name.{Name}
 use Rattle.ir_values.specs.declared.value.Value.{Value}
 use Rattle.ir_values.specs.declared.value.Value.TheVariants as value
 use Rattle.ir_values.specs.Calls.{class_of, rt, qis}
 use Rattle.qir_meaning.specs.Effects.{argument, arguments, declared_call}
-use Rattle.qir_meaning.specs.Moves.{does, performs, declared, with_body, calls, with_values, name_text, class_of_function}
+use Rattle.ir_values.specs.Names.{name_text}
+use Rattle.qir_meaning.specs.Moves.{does, performs, declared, with_body, calls, with_values, class_of_function}
 use Rattle.backend_api.specs.Naming.{named_arg}
 use Rattle.qir_meaning.specs.Naming.{fixed_naming}
 use Rattle.qir_meaning.specs.State.{Env, State, Move, value_of, values_of, one_more}

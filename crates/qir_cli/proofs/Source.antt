@@ -14,12 +14,13 @@ use Rattle.ir_reader.specs.declared.line.Qubit.{Qubit}
 use Rattle.ir_reader.specs.FirstText.{Scope, after_line, line_fits, lines_fit, qubit_fits}
 use Rattle.ir_reader.specs.FirstTree.{insts_of, names_of, number_of, qubit_operand, call_inst, function_id, local_id, gate_function, zero_code}
 use Rattle.ir_values.specs.declared.ty.Ty.TheVariants as ty
-use Rattle.ir_values.specs.declared.value.Cause.TheVariants as cause
-use Rattle.ir_values.specs.declared.value.Class.TheVariants as class
-use Rattle.ir_values.specs.declared.value.FuncId.{FuncId}
+use Rattle.ir_values.specs.declared.cause.Cause.TheVariants as cause
+use Rattle.ir_values.specs.declared.class.Class.TheVariants as class
+use Rattle.ir_values.specs.declared.ids.FuncId.{FuncId}
 use Rattle.ir_values.specs.declared.value.Value.TheVariants as value
 use Rattle.qir_meaning.specs.Effects.{gate, operation}
-use Rattle.qir_meaning.specs.Moves.{move, does, name_text, class_of_function}
+use Rattle.ir_values.specs.Names.{name_text}
+use Rattle.qir_meaning.specs.Moves.{move, does, class_of_function}
 use Rattle.qir_meaning.specs.Simulation.{Whole, On, tick, tick_of}
 use Rattle.qir_meaning.specs.State.{Env, State, Move, Next, Back, Halt, Trap, next, one_more}
 use Rattle.qir_cli.proofs.Moves.{at, Holds, allocate, release, apply, cnot, class-allocate, class-release, class-apply, class-cnot, apply-blocks, declared-move, AllFit, pairs, refs, qubit_value, qubits-have, qubits-pass}

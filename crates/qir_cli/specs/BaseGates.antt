@@ -14,11 +14,11 @@ use Rattle.ir_module.specs.declared.tree.Module.{Module}
 use Rattle.ir_module.specs.declared.tree.Operand.{Operand}
 use Rattle.ir_module.specs.declared.tree.Operand.TheVariants as operand
 use Rattle.ir_values.specs.declared.ty.Ty.{Ty}
-use Rattle.ir_values.specs.declared.value.FuncId.{FuncId}
+use Rattle.ir_values.specs.declared.ids.FuncId.{FuncId}
 use Rattle.ir_values.specs.declared.value.Value.{Value}
 use Rattle.ir_values.specs.declared.value.Value.TheVariants as value
 use Rattle.ir_values.specs.Calls.{same_text, qis}
-use Rattle.qir_meaning.specs.Moves.{name_text}
+use Rattle.ir_values.specs.Names.{name_text}
 
 -- the entry of these modules is their first function
 abbrev pub main_of : Module → Option Function

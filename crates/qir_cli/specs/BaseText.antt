@@ -4,7 +4,7 @@ use Rattle.std.specs.List.{flat_map}
 use Rattle.ir_module.specs.declared.tree.Function.{Function}
 use Rattle.ir_module.specs.declared.tree.Module.{Module}
 use Rattle.ir_reader.specs.FirstText.{lines_text}
-use Rattle.qir_meaning.specs.Moves.{name_text}
+use Rattle.ir_values.specs.Names.{name_text}
 use Rattle.qir_cli.specs.BaseGates.{GateCall, main_of, own_qubits, allocations, gates_of, used_gates}
 
 -- texts with a comma and a blank between

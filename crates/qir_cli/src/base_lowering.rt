@@ -2,7 +2,7 @@
 ghost use Rattle.std.specs.Prelude.{◌≡◌, ℕ, ◌++◌, List, [], ◌∷◌, IfOk, OnOk};
 ghost use Rattle.std.specs.List.{flat_map};
 ghost use Rattle.std.specs.Option.{option_map, option_to_list, option_copied};
-ghost use Rattle.qir_meaning.specs.Moves.{name_text};
+ghost use Rattle.ir_values.specs.Names.{name_text};
 ghost use Rattle.qir_cli.specs.BaseCode as code;
 ghost use Rattle.qir_cli.specs.BaseGates as spec;
 ghost use Rattle.qir_cli.specs.BaseGates.{GateCall};
@@ -11,7 +11,6 @@ ghost use Rattle.qir_cli.specs.BaseText as spec_text;
 use crate::text::push_number;
 use indexmap::IndexSet;
 use ir_module::{Attr, Callee, Function, Inst, InstKind, Module, Operand};
-use ir_reader::plain_number;
 use ir_values::{Bytes, Memory, Name, Ty, Value};
 use std::alloc::Global;
 
@@ -248,7 +247,7 @@ fn own_qubits(m: &Module) -> u64
 {
     match entry(m) {
         Some(main) => {
-            plain_number(attribute_value(b"required_num_qubits", main.attrs.as_slice())).unwrap_or(
+            parse_decimal(attribute_value(b"required_num_qubits", main.attrs.as_slice())).unwrap_or(
                 0,
             )
         }

@@ -2,7 +2,7 @@
 ghost use Rattle.std.specs.Prelude.{◌≡◌};
 ghost use Rattle.qir_cli.specs.Commands as spec;
 
-use ir_reader::plain_number;
+use ir_values::parse_decimal;
 
 /// A command.
 #[derive(Clone, Copy, Debug, PartialEq, Eq)]
@@ -35,7 +35,7 @@ pub(crate) fn command_of(words: &[String]) -> Option<Command>
 fn number_word(word: &[u8], least: u64, most: u64) -> Option<u64>
     ensures { result ≡ spec.number_word least most word.now }
 {
-    match plain_number(word) {
+    match parse_decimal(word) {
         Some(n) => {
             if least <= n && n <= most {
                 Some(n)

@@ -20,13 +20,13 @@ use Rattle.ir_module.specs.declared.tree.Term.TheVariants as term
 use Rattle.ir_module.specs.Steps.{Step, PhiAt, InstAt, TermAt, NoStep, step_in_module}
 use Rattle.ir_values.specs.declared.ty.Ty.{Ty}
 use Rattle.ir_values.specs.declared.ty.Ty.TheVariants as ty
-use Rattle.ir_values.specs.declared.value.BlockId.{BlockId}
-use Rattle.ir_values.specs.declared.value.Cause.{Cause}
-use Rattle.ir_values.specs.declared.value.Class.{Class}
-use Rattle.ir_values.specs.declared.value.Class.TheVariants as class
-use Rattle.ir_values.specs.declared.value.FuncId.{FuncId}
-use Rattle.ir_values.specs.declared.value.GlobalId.{GlobalId}
-use Rattle.ir_values.specs.declared.value.LocalId.{LocalId}
+use Rattle.ir_values.specs.declared.ids.BlockId.{BlockId}
+use Rattle.ir_values.specs.declared.cause.Cause.{Cause}
+use Rattle.ir_values.specs.declared.class.Class.{Class}
+use Rattle.ir_values.specs.declared.class.Class.TheVariants as class
+use Rattle.ir_values.specs.declared.ids.FuncId.{FuncId}
+use Rattle.ir_values.specs.declared.ids.GlobalId.{GlobalId}
+use Rattle.ir_values.specs.declared.ids.LocalId.{LocalId}
 use Rattle.ir_values.specs.declared.value.Value.{Value}
 use Rattle.ir_values.specs.declared.value.Value.TheVariants as value
 use Rattle.ir_values.specs.Arithmetic.{binary_of}
@@ -34,7 +34,8 @@ use Rattle.ir_values.specs.Int.{IntValue}
 use Rattle.output_records.specs.declared.record.Shown.{Shown}
 use Rattle.qir_meaning.specs.Effects.{argument, arguments, known_bit, reading, label_of, releases, gate, measure, measure_into, recorded, declared_call, operation, first_result, is_one}
 use Rattle.ir_module.specs.Operands.{operands_of}
-use Rattle.qir_meaning.specs.Moves.{with_value, with_values, with_int, move, step_move, does, computes, performs, declared, with_body, calls, ends, arrives, leads_to, jump, phis_take, block_in, target_of, class_of_function, name_text}
+use Rattle.ir_values.specs.Names.{name_text}
+use Rattle.qir_meaning.specs.Moves.{with_value, with_values, with_int, move, step_move, does, computes, performs, declared, with_body, calls, ends, arrives, leads_to, jump, phis_take, block_in, target_of, class_of_function}
 use Rattle.qir_meaning.specs.Runs.{RunEnd, Returned, Trapped, Asks, Cut, end_of}
 use Rattle.qir_meaning.specs.Same.{Prefix}
 use Rattle.qir_meaning.specs.Simulation.{Whole, Tick, On, Off, gives_back, tick_of, tick, run}

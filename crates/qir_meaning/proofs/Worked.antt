@@ -15,9 +15,9 @@ use Rattle.ir_values.specs.declared.int.Pred.TheVariants as pred
 use Rattle.ir_values.specs.declared.int.Width.{Width}
 use Rattle.ir_values.specs.declared.int.Width.TheVariants.{W1, W8, W16}
 use Rattle.ir_values.specs.declared.ty.Ty.TheVariants as ty
-use Rattle.ir_values.specs.declared.value.Cause.{Cause}
-use Rattle.ir_values.specs.declared.value.Cause.TheVariants.{DivZero, Overflow, Poison}
-use Rattle.ir_values.specs.declared.value.LocalId.{LocalId}
+use Rattle.ir_values.specs.declared.cause.Cause.{Cause}
+use Rattle.ir_values.specs.declared.cause.Cause.TheVariants.{DivZero, Overflow, Poison}
+use Rattle.ir_values.specs.declared.ids.LocalId.{LocalId}
 use Rattle.ir_values.specs.declared.value.Value.{Value}
 use Rattle.ir_values.specs.declared.value.Value.TheVariants as value
 use Rattle.qir_meaning.specs.Effects.{gives}

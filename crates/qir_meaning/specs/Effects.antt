@@ -12,11 +12,11 @@ use Rattle.ir_module.specs.declared.places.Point.{Point}
 use Rattle.ir_values.specs.declared.int.Width.TheVariants.{W1}
 use Rattle.ir_values.specs.declared.ty.Ty.{Ty}
 use Rattle.ir_values.specs.declared.ty.Ty.TheVariants as ty
-use Rattle.ir_values.specs.declared.value.Cause.TheVariants as cause
-use Rattle.ir_values.specs.declared.value.Class.{Class}
-use Rattle.ir_values.specs.declared.value.Class.TheVariants as class
-use Rattle.ir_values.specs.declared.value.GlobalId.{GlobalId}
-use Rattle.ir_values.specs.declared.value.LocalId.{LocalId}
+use Rattle.ir_values.specs.declared.cause.Cause.TheVariants as cause
+use Rattle.ir_values.specs.declared.class.Class.{Class}
+use Rattle.ir_values.specs.declared.class.Class.TheVariants as class
+use Rattle.ir_values.specs.declared.ids.GlobalId.{GlobalId}
+use Rattle.ir_values.specs.declared.ids.LocalId.{LocalId}
 use Rattle.ir_values.specs.declared.value.Value.{Value}
 use Rattle.ir_values.specs.declared.value.Value.TheVariants as value
 use Rattle.ir_values.specs.Calls.{qis}

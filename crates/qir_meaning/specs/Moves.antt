@@ -16,19 +16,18 @@ use Rattle.ir_module.specs.Tree.{block_at}
 use Rattle.ir_values.specs.declared.sig.TyWord.{TyWord}
 use Rattle.ir_values.specs.declared.ty.Ty.{Ty}
 use Rattle.ir_values.specs.declared.ty.Ty.TheVariants as ty
-use Rattle.ir_values.specs.declared.value.BlockId.{BlockId}
-use Rattle.ir_values.specs.declared.value.Cause.{Cause}
-use Rattle.ir_values.specs.declared.value.Cause.TheVariants as cause
-use Rattle.ir_values.specs.declared.value.Class.{Class}
-use Rattle.ir_values.specs.declared.value.FuncId.{FuncId}
-use Rattle.ir_values.specs.declared.value.LocalId.{LocalId}
-use Rattle.ir_values.specs.declared.value.Name.{Name}
-use Rattle.ir_values.specs.declared.value.Name.TheVariants as name
+use Rattle.ir_values.specs.declared.ids.BlockId.{BlockId}
+use Rattle.ir_values.specs.declared.cause.Cause.{Cause}
+use Rattle.ir_values.specs.declared.cause.Cause.TheVariants as cause
+use Rattle.ir_values.specs.declared.class.Class.{Class}
+use Rattle.ir_values.specs.declared.ids.FuncId.{FuncId}
+use Rattle.ir_values.specs.declared.ids.LocalId.{LocalId}
 use Rattle.ir_values.specs.declared.value.Value.{Value}
 use Rattle.ir_values.specs.declared.value.Value.TheVariants as value
 use Rattle.ir_values.specs.Arithmetic.{binary_of, compare_of, convert_of}
 use Rattle.ir_values.specs.Calls.{class_of}
 use Rattle.ir_values.specs.Int.{IntValue}
+use Rattle.ir_values.specs.Names.{name_text}
 use Rattle.ir_values.specs.Types.{signature}
 use Rattle.qir_meaning.specs.Effects.{bit_value, declared_call, gives, is_one}
 use Rattle.qir_meaning.specs.State.{Env, State, Trap, Move, Next, Enter, Back, Halt, Stuck, value_of, values_of, frame}
@@ -45,10 +44,6 @@ with_value (Some v) st go = go v
 abbrev pub with_values : Option (List Value) → State → (List Value → Move) → Move
 with_values None st go = Halt (Trap cause.Unbound) st
 with_values (Some vs) st go = go vs
-
-abbrev pub name_text : Name → List ℕ
-name_text (name.Text bytes) = bytes
-name_text (name.Number n) = []
 
 -- the words of a function's type
 abbrev pub type_words : Function → List TyWord

@@ -10,8 +10,8 @@ use Rattle.ir_module.specs.declared.places.Point.{Point}
 use Rattle.ir_module.specs.declared.tree.Function.{Function}
 use Rattle.ir_module.specs.declared.tree.Operand.{Operand}
 use Rattle.ir_module.specs.declared.tree.Operand.TheVariants as operand
-use Rattle.ir_values.specs.declared.value.Cause.{Cause}
-use Rattle.ir_values.specs.declared.value.LocalId.{LocalId}
+use Rattle.ir_values.specs.declared.cause.Cause.{Cause}
+use Rattle.ir_values.specs.declared.ids.LocalId.{LocalId}
 use Rattle.ir_values.specs.declared.value.Value.{Value}
 use Rattle.output_records.specs.declared.record.Record.{Record}
 

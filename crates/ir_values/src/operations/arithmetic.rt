@@ -3,10 +3,10 @@ ghost use Rattle.std.specs.Prelude.{◌≡◌, ◌<◌, ◌≤◌, ◌^◌, ◌&
 ghost use Rattle.std.specs.Int.RustNames.{unsigned_abs};
 ghost use Rattle.ir_values.specs.Arithmetic as spec;
 ghost use Rattle.ir_values.specs.declared.int.BinOp.TheVariants as op;
-ghost use Rattle.ir_values.specs.declared.value.Cause.TheVariants.{Poison};
+ghost use Rattle.ir_values.specs.declared.cause.Cause.TheVariants.{Poison};
 
+use crate::cause::Cause;
 use crate::int::{Flags, Int, Width};
-use crate::value::Cause;
 
 #[tactic(auto, unfolding(crate::specs::Arithmetic::binary_of))]
 pub(super) fn add(flags: Flags, a: Int, b: Int) -> Result<Int, Cause>

@@ -5,8 +5,8 @@ ghost use Rattle.ir_values.specs.Int.{signed};
 ghost use Rattle.ir_values.specs.Arithmetic as spec;
 ghost use Rattle.ir_values.specs.declared.int.BinOp.TheVariants as op;
 
+use crate::cause::Cause;
 use crate::int::{Flags, Int};
-use crate::value::Cause;
 
 #[tactic(auto, unfolding(crate::specs::Arithmetic::binary_of))]
 pub(super) fn udiv(flags: Flags, a: Int, b: Int) -> Result<Int, Cause>

@@ -4,12 +4,12 @@ ghost use Rattle.std.specs.Int.{int_div_euclid};
 ghost use Rattle.std.specs.Int.RustNames.{unsigned_abs};
 ghost use Rattle.ir_values.specs.Arithmetic as spec;
 ghost use Rattle.ir_values.specs.Int.{signed};
-ghost use Rattle.ir_values.specs.declared.value.Cause.TheVariants.{Poison};
+ghost use Rattle.ir_values.specs.declared.cause.Cause.TheVariants.{Poison};
 ghost use Rattle.ir_values.specs.declared.int.BinOp.TheVariants as op;
 
 use super::arithmetic::{fits_unsigned, product, wrapped};
+use crate::cause::Cause;
 use crate::int::{Flags, Int};
-use crate::value::Cause;
 
 #[tactic(auto, unfolding(crate::specs::Arithmetic::binary_of))]
 pub(super) fn shl(flags: Flags, a: Int, b: Int) -> Result<Int, Cause>

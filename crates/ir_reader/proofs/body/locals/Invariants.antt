@@ -1,5 +1,5 @@
 use Rattle.std.proofs.Common.{length, ◌≡◌, ◌++◌, map}
-use Rattle.ir_values.specs.declared.value.Name.TheVariants as name
+use Rattle.ir_values.specs.declared.name.Name.TheVariants as name
 use Rattle.ir_values.specs.declared.ty.Ty.TheVariants as ty
 use Rattle.ir_reader.specs.FirstTree.{names_of}
 use Rattle.ir_reader.proofs.body.locals.Given as goal

@@ -1,5 +1,5 @@
 use Rattle.std.proofs.Common.{◌≡◌, length}
-use Rattle.ir_values.specs.CallRows.{is_known}
+use Rattle.ir_values.specs.code.CallRows.{is_known}
 use Rattle.ir_values.proofs.call_table.is_known.Given as goal
 
 abbrev pub decreases-loop-rows : goal.decreases-loop-rows

@@ -1,6 +1,6 @@
 use Rattle.std.proofs.Common.{◌++◌, ◌∙◌, ap, sym}
 use Rattle.std.specs.Prelude.{codes}
-use Rattle.qir_meaning.specs.Moves.{name_text}
+use Rattle.ir_values.specs.Names.{name_text}
 use Rattle.qir_cli.proofs.Writing.{OnOk-map, parameters-listed, line_written}
 use Rattle.qir_cli.proofs.base_lowering.push_declare.Goals as goal
 

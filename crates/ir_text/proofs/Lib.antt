@@ -10,6 +10,7 @@ pub mod Laws
 pub mod Lengths
 pub mod Longest
 pub mod Numbers
+pub mod LabelFree
 pub mod Ranges
 pub mod RunForms
 pub mod Runs

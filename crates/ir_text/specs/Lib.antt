@@ -1,5 +1,4 @@
+pub mod code
 pub mod Faults
 pub mod Forms
-pub mod Next
-pub mod Scan
 pub mod Tokens

@@ -8,7 +8,7 @@ mod number;
 mod shape;
 mod tok;
 
-pub use next::{next_token, tokens_are_one};
+pub use next::{next_token, next_token_in_pass, tokens_are_one};
 pub use tok::{LexCode, LexError, Span, Tok};
 
 #[cfg(test)]

@@ -1,16 +1,18 @@
 //! Where the token ends that a text begins with.
-ghost use Rattle.std.specs.Prelude.{◌≡◌};
+ghost use Rattle.std.specs.Prelude.{◌≡◌, true, false};
 ghost use Rattle.ir_text.specs.Forms.{is_sign};
-ghost use Rattle.ir_text.specs.Scan as scan;
-ghost use Rattle.ir_text.specs.Scan.{Gives};
+ghost use Rattle.ir_text.specs.code.LabelFree.{behind_label_free, ends_label};
+ghost use Rattle.ir_text.specs.code.Scan as scan;
+ghost use Rattle.ir_text.specs.code.Scan.{Gives};
 
 use crate::class::Class;
 use crate::number::number;
 use crate::tok::{LexCode, Tok};
 
 /// The kind of the token that the bytes begin with, and the bytes behind it, whatever its escapes
-/// and its magnitude are.
-pub(crate) fn shape(bytes: &[u8]) -> Result<(Tok, &[u8]), LexCode>
+/// and its magnitude are. Where `label_free` is true, the bytes of names that come first end in no label.
+pub(crate) fn shape(bytes: &[u8], label_free: bool) -> Result<(Tok, &[u8]), LexCode>
+    requires { label_free ≡ true → ends_label bytes.now ≡ false }
     ensures { Gives (λ found. (found.0, found.1.now)) result (scan.shape bytes.now) }
 {
     match bytes {
@@ -21,7 +23,17 @@ pub(crate) fn shape(bytes: &[u8]) -> Result<(Tok, &[u8]), LexCode>
         [b'#', digits @ ..] => Ok((Tok::Group, behind_digits(digits)?)),
         [b'!', name @ ..] => Ok((Tok::Metadata, behind_metadata(name))),
         [c, more @ ..] if is_sign(*c) => Ok((Tok::Sign, more)),
-        [..] => bytes_or_plain(bytes),
+        [..] => bytes_or_plain(bytes, label_free),
+    }
+}
+
+/// The bytes behind those of names that come first; all of them where these are a label.
+pub(crate) fn behind_label_free(bytes: &[u8]) -> &[u8]
+    ensures { result.now ≡ behind_label_free bytes.now }
+{
+    match Class::Name.after(bytes) {
+        [b':', ..] => bytes,
+        behind => behind,
     }
 }
 
@@ -89,20 +101,24 @@ fn behind_metadata(bytes: &[u8]) -> &[u8]
 }
 
 /// A byte string, or the token where no quote, sigil or sign comes first.
-fn bytes_or_plain(bytes: &[u8]) -> Result<(Tok, &[u8]), LexCode>
+fn bytes_or_plain(bytes: &[u8], label_free: bool) -> Result<(Tok, &[u8]), LexCode>
+    requires { label_free ≡ true → ends_label bytes.now ≡ false }
     ensures { Gives (λ found. (found.0, found.1.now)) result (scan.bytes_or_plain bytes.now) }
 {
     match bytes {
         [b'c', b'"', inside @ ..] => Ok((Tok::ByteStr, behind_string(inside)?)),
-        _ => plain(bytes),
+        _ => plain(bytes, label_free),
     }
 }
 
 /// The token where no quote, sigil or sign comes first, and no byte string.
-fn plain(bytes: &[u8]) -> Result<(Tok, &[u8]), LexCode>
+#[tactic(auto, using(crate::proofs::LabelFree::label_free))]
+fn plain(bytes: &[u8], label_free: bool) -> Result<(Tok, &[u8]), LexCode>
+    requires { label_free ≡ true → ends_label bytes.now ≡ false }
     ensures { Gives (λ found. (found.0, found.1.now)) result (scan.plain bytes.now) }
 {
     match bytes {
+        [c, ..] if label_free && Class::Name.has(*c) => unlabelled(bytes),
         [c, ..] if Class::Name.has(*c) => match Class::Name.after(bytes) {
             [b':', behind @ ..] => Ok((Tok::Label, behind)),
             _ => unlabelled(bytes),

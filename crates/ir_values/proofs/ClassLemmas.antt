@@ -144,21 +144,21 @@ module _ (ret : Ty) (ts : List Ty) (h : IsTy ret) (hs : All IsTy ts) where
   two-of t u i j = All-cons IsTy t (u ∷ []) i (one-of u j)
 
   has-types : (c : Class) → fits_words c (signature ret ts) ≡ true → HasTypes c ret ts
-  has-types class.Init e = plain ty.Void (ty.Text ∷ []) tt (one-of ty.Text tt) e
-  has-types class.Alloc e = plain ty.Qubit [] tt no-type e
-  has-types class.Release e = plain ty.Void (ty.Qubit ∷ []) tt (one-of ty.Qubit tt) e
-  has-types class.One e = plain ty.Res [] tt no-type e
-  has-types class.Zero e = plain ty.Res [] tt no-type e
-  has-types class.Equal e = plain (ty.Int W1) (ty.Res ∷ ty.Res ∷ []) tt (two-of ty.Res ty.Res tt tt) e
-  has-types class.Count e = plain ty.Void (ty.Res ∷ ty.Int W32 ∷ []) tt (two-of ty.Res (ty.Int W32) tt tt) e
-  has-types class.Read e = plain (ty.Int W1) (ty.Res ∷ []) tt (one-of ty.Res tt) e
-  has-types class.Tuple e = plain ty.Void (ty.Int W64 ∷ ty.Text ∷ []) tt (two-of (ty.Int W64) ty.Text tt tt) e
-  has-types class.Array e = plain ty.Void (ty.Int W64 ∷ ty.Text ∷ []) tt (two-of (ty.Int W64) ty.Text tt tt) e
-  has-types class.ResRecord e = plain ty.Void (ty.Res ∷ ty.Text ∷ []) tt (two-of ty.Res ty.Text tt tt) e
-  has-types class.BoolRecord e = plain ty.Void (ty.Int W1 ∷ ty.Text ∷ []) tt (two-of (ty.Int W1) ty.Text tt tt) e
-  has-types class.IntRecord e = plain ty.Void (ty.Int W64 ∷ ty.Text ∷ []) tt (two-of (ty.Int W64) ty.Text tt tt) e
-  has-types class.DoubleRecord e = plain ty.Void (ty.Double ∷ ty.Text ∷ []) tt (two-of ty.Double ty.Text tt tt) e
-  has-types class.Returning e = plain ty.Res (ty.Qubit ∷ []) tt (one-of ty.Qubit tt) e
+  has-types class.Init e = plain ty.Void (ty.Text ∷ []) refl (one-of ty.Text refl) e
+  has-types class.Alloc e = plain ty.Qubit [] refl no-type e
+  has-types class.Release e = plain ty.Void (ty.Qubit ∷ []) refl (one-of ty.Qubit refl) e
+  has-types class.One e = plain ty.Res [] refl no-type e
+  has-types class.Zero e = plain ty.Res [] refl no-type e
+  has-types class.Equal e = plain (ty.Int W1) (ty.Res ∷ ty.Res ∷ []) refl (two-of ty.Res ty.Res refl refl) e
+  has-types class.Count e = plain ty.Void (ty.Res ∷ ty.Int W32 ∷ []) refl (two-of ty.Res (ty.Int W32) refl refl) e
+  has-types class.Read e = plain (ty.Int W1) (ty.Res ∷ []) refl (one-of ty.Res refl) e
+  has-types class.Tuple e = plain ty.Void (ty.Int W64 ∷ ty.Text ∷ []) refl (two-of (ty.Int W64) ty.Text refl refl) e
+  has-types class.Array e = plain ty.Void (ty.Int W64 ∷ ty.Text ∷ []) refl (two-of (ty.Int W64) ty.Text refl refl) e
+  has-types class.ResRecord e = plain ty.Void (ty.Res ∷ ty.Text ∷ []) refl (two-of ty.Res ty.Text refl refl) e
+  has-types class.BoolRecord e = plain ty.Void (ty.Int W1 ∷ ty.Text ∷ []) refl (two-of (ty.Int W1) ty.Text refl refl) e
+  has-types class.IntRecord e = plain ty.Void (ty.Int W64 ∷ ty.Text ∷ []) refl (two-of (ty.Int W64) ty.Text refl refl) e
+  has-types class.DoubleRecord e = plain ty.Void (ty.Double ∷ ty.Text ∷ []) refl (two-of ty.Double ty.Text refl refl) e
+  has-types class.Returning e = plain ty.Res (ty.Qubit ∷ []) refl (one-of ty.Qubit refl) e
   has-types class.Measure e = instruction-has 1 ret ts h hs e
   has-types class.Gate e = instruction-has 0 ret ts h hs e
 

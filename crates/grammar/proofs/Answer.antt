@@ -3,13 +3,13 @@ use Rattle.std.specs.Prelude.{Ok, Err}
 use Rattle.std.proofs.Common.{◌≡◌, ◌-◌, ℕ, Bool, true, false, Some, None, List, [], ◌∷◌, ◌++◌, length, ◌⊎◌, inl, inr, refl, sym, ap, ◌∙◌, subst, append_assoc, length-append, arith}
 use Rattle.grammar.specs.declared.fault.Fault.{Fault}
 use Rattle.grammar.specs.declared.fault.Fault.TheVariants.{Unexpected, Broken}
-use Rattle.grammar.specs.Grammar.{Alphabet, Grammar, nothing, tok, seq, alt, opt, rep, as_tree, dep, grow, labelled}
+use Rattle.grammar.specs.Grammar.{Alphabet, Grammar, nothing, tok, seq, alt, opt, rep, as_tree, dep, grow, marked}
 use Rattle.grammar.specs.LookAhead.{LL1}
-use Rattle.grammar.specs.Language.{last_of, Derives, Ending, Fine, Labelled, Breaks, one, Front, IsUnexpected, IsBroken, IsFault, Misread, Answer, Holds}
-use Rattle.grammar.specs.Reading.{Out, Got, Stop, read, answered, answer}
+use Rattle.grammar.specs.Language.{last_of, Derives, Ending, Fine, Marked, Breaks, one, Front, IsUnexpected, IsBroken, IsFault, Misread, Answer, Holds}
+use Rattle.grammar.specs.code.Reading.{Out, Got, Stop, read, answered, answer}
 use Rattle.grammar.specs.Laws.{HoldsOnce, OneTree, PrefixClosed, AnswersExactly}
 use Rattle.grammar.proofs.Basics.{append_none}
-use Rattle.grammar.proofs.Swap.{Swapped, LabelFact, swaps, alike}
+use Rattle.grammar.proofs.Swap.{Swapped, MarkFact, swaps, alike}
 use Rattle.grammar.proofs.Begin.{Ends}
 use Rattle.grammar.proofs.Complete.{derives_read, front_read}
 
@@ -26,7 +26,7 @@ module _ (L : Alphabet) where
   front_start (as_tree f a) = front_start a
   front_start (dep a s f) = inl (front_start a)
   front_start (grow x s f) = ([], [], [], refl, refl, front_start (f x))
-  front_start (labelled a) = inr (front_start a)
+  front_start (marked a) = inr (front_start a)
 
   pub derives_front : {A : Type 0} (g : Grammar L A) (us : List L.Token) (x : A) → Derives g us x → Front g Fine us
   derives_front (nothing y) us x w = w.0
@@ -40,7 +40,7 @@ module _ (L : Alphabet) where
   derives_front (as_tree f a) us x w = derives_front a us w.0 w.1
   derives_front (dep a s f) us x w = inr (x.0, w.0, w.1, w.2, w.3, derives_front (f x.0) w.1 x.1 w.4)
   derives_front (grow x s f) us y w = (w.0, us, [], sym (append_none us), w.2, front_start (f (last_of x w.0)))
-  derives_front (labelled a) us x w = inr (derives_front a us x w)
+  derives_front (marked a) us x w = inr (derives_front a us x w)
 
   -- one list cut twice
 
@@ -77,17 +77,17 @@ module _ (L : Alphabet) where
     fine_broken : (us : List L.Token) (r : L.Rule) (t : L.Token) → read g false (us ++ t ∷ []) ≡ Stop (Broken r) (t ∷ []) → Front g Fine (us ++ t ∷ []) → ⊥
     fine_broken us r t h f = subst (Ends L Fine) h (front_read L g p Fine (us ++ t ∷ []) f false)
 
-    -- where a labelled part may begin next, the reading says so
-    label_got : (us : List L.Token) (x : A) (d : Bool) → read g false us ≡ Got x d [] → Front g Labelled us → d ≡ true
-    label_got us x d h f = (subst (Ends L Labelled) h (front_read L g p Labelled us f false)).1
+    -- where a marked part may begin next, the reading says so
+    mark_got : (us : List L.Token) (x : A) (d : Bool) → read g false us ≡ Got x d [] → Front g Marked us → d ≡ true
+    mark_got us x d h f = (subst (Ends L Marked) h (front_read L g p Marked us f false)).1
 
-    label_wrong : (us : List L.Token) (d : Bool) → read g false us ≡ Stop (Unexpected d) [] → Front g Labelled us → d ≡ true
-    label_wrong us d h f = (subst (Ends L Labelled) h (front_read L g p Labelled us f false)).1
+    mark_wrong : (us : List L.Token) (d : Bool) → read g false us ≡ Stop (Unexpected d) [] → Front g Marked us → d ≡ true
+    mark_wrong us d h f = (subst (Ends L Marked) h (front_read L g p Marked us f false)).1
 
-    pub label_says : (us : List L.Token) (d : Bool) → LabelFact L (Front g) false us d → d ≡ true → Front g Labelled us
-    label_says us d h e = go (h e)
+    pub mark_says : (us : List L.Token) (d : Bool) → MarkFact L (Front g) false us d → d ≡ true → Front g Marked us
+    mark_says us d h e = go (h e)
       where
-        go : ((us ≡ []) × (false ≡ true)) ⊎ Front g Labelled us → Front g Labelled us
+        go : ((us ≡ []) × (false ≡ true)) ⊎ Front g Marked us → Front g Marked us
         go (inl i) = absurd (let j = i.1 in cc)
         go (inr i) = i
 
@@ -109,8 +109,8 @@ module _ (L : Alphabet) where
       derives_front g h.0 x h.2,
       (
         (no_front_got h.0 x d t Fine (h.4 (t ∷ []) refl), λ r. no_front_got h.0 x d t (Breaks r) (h.4 (t ∷ []) refl)),
-        label_says h.0 d h.3,
-        label_got h.0 x d (ap (read g false) (sym (append_none h.0)) ∙ h.4 [] tt),
+        mark_says h.0 d h.3,
+        mark_got h.0 x d (ap (read g false) (sym (append_none h.0)) ∙ h.4 [] tt),
       ),
     )
     sound ts (Stop (Unexpected d) []) h = (
@@ -119,7 +119,7 @@ module _ (L : Alphabet) where
       h.1,
       taken_length ts h.0 [] h.1,
       h.2,
-      (not_derives h, label_says h.0 d h.3, label_wrong h.0 d (ap (read g false) (sym (append_none h.0)) ∙ h.4 [] tt)),
+      (not_derives h, mark_says h.0 d h.3, mark_wrong h.0 d (ap (read g false) (sym (append_none h.0)) ∙ h.4 [] tt)),
     )
       where
         not_derives : (h : Swapped L (Derives g) (Front g) (read g) false ts (Stop (Unexpected d) [])) → (x : A) → Derives g h.0 x → ⊥
@@ -132,8 +132,8 @@ module _ (L : Alphabet) where
       h.2,
       (
         (no_front_wrong h.0 d t Fine (h.4 (t ∷ []) refl), λ r. no_front_wrong h.0 d t (Breaks r) (h.4 (t ∷ []) refl)),
-        label_says h.0 d h.3,
-        label_wrong h.0 d (ap (read g false) (sym (append_none h.0)) ∙ h.4 [] tt),
+        mark_says h.0 d h.3,
+        mark_wrong h.0 d (ap (read g false) (sym (append_none h.0)) ∙ h.4 [] tt),
       ),
     )
     sound ts (Stop (Broken r) rest) h =
@@ -187,16 +187,16 @@ module _ (L : Alphabet) where
         go : (left : List L.Token) (h : Swapped L (Derives g) (Front g) (read g) false ts (Got x d left)) → (us ≡ h.0) × (rest ≡ left) → answered {L = L} ts (Got x d left) ≡ Err (Unexpected b, length us)
         go [] h i = absurd (subst (λ z. IsUnexpected g us z) i.1 n.0 x (subst (λ z. Derives g z x) (sym i.0) h.2))
         go (t ∷ v) h i =
-            let says = label_says h.0 d h.3 in
-            let got = label_got h.0 x d (ap (read g false) (sym (append_none h.0)) ∙ h.4 [] tt) in
-            let l : d ≡ b = same_flag d b (λ k. n.2 (subst (Front g Labelled) (sym i.0) (says k))) (λ k. got (subst (Front g Labelled) i.0 (n.1 k))) in
+            let says = mark_says h.0 d h.3 in
+            let got = mark_got h.0 x d (ap (read g false) (sym (append_none h.0)) ∙ h.4 [] tt) in
+            let l : d ≡ b = same_flag d b (λ k. n.2 (subst (Front g Marked) (sym i.0) (says k))) (λ k. got (subst (Front g Marked) i.0 (n.1 k))) in
             let m : length ts - length (t ∷ v) ≡ length us = taken_length ts h.0 (t ∷ v) h.1 ∙ ap length (sym i.0) in
             ap (λ z. Err (Unexpected z, length ts - length (t ∷ v))) l ∙ ap (λ z. Err (Unexpected b, z)) m
     unexpected_answered ts us rest b e f n (Stop (Unexpected d) left) h =
         let i = place us rest h.0 left (sym e ∙ h.1) f n.0 h.2 (λ t v j. no_front_wrong h.0 d t Fine (h.4 (t ∷ []) (subst (λ z. alike L z (t ∷ [])) (sym j) refl))) in
-        let says = label_says h.0 d h.3 in
-        let got = label_wrong h.0 d (ap (read g false) (sym (append_none h.0)) ∙ h.4 [] tt) in
-        let l : d ≡ b = same_flag d b (λ k. n.2 (subst (Front g Labelled) (sym i.0) (says k))) (λ k. got (subst (Front g Labelled) i.0 (n.1 k))) in
+        let says = mark_says h.0 d h.3 in
+        let got = mark_wrong h.0 d (ap (read g false) (sym (append_none h.0)) ∙ h.4 [] tt) in
+        let l : d ≡ b = same_flag d b (λ k. n.2 (subst (Front g Marked) (sym i.0) (says k))) (λ k. got (subst (Front g Marked) i.0 (n.1 k))) in
         let m : length ts - length left ≡ length us = taken_length ts h.0 left h.1 ∙ ap length (sym i.0) in
         ap (λ z. Err (Unexpected z, length ts - length left)) l ∙ ap (λ z. Err (Unexpected b, z)) m
     unexpected_answered ts us rest b e f n (Stop (Broken r) left) h =

@@ -1,10 +1,10 @@
 -- A grammar and the same without its side rules.
 use Rattle.std.proofs.Common.{◌≡◌, ℕ, zero, suc, Bool, true, false, ◌||◌, cond, Option, Some, None, List, [], ◌∷◌, length, ◌⊎◌, inl, inr, refl, sym, ap, ◌∙◌, subst}
 use Rattle.grammar.specs.declared.fault.Fault.TheVariants.{Unexpected, Broken}
-use Rattle.grammar.specs.Grammar.{Alphabet, Grammar, nothing, tok, seq, alt, opt, rep, as_tree, dep, grow, labelled, any, is_in, begins_with}
-use Rattle.grammar.specs.LookAhead.{nullable, firsts, extensions, labels, LL1}
-use Rattle.grammar.specs.Language.{Sentence, many, steps, last_of, Derives, Ending, Fine, Labelled, Breaks, one, empty_front, label_front, Front}
-use Rattle.grammar.specs.Reading.{Out, Got, Stop, Read, then_do, kept, read_one, read_many, read_growth, read}
+use Rattle.grammar.specs.Grammar.{Alphabet, Grammar, nothing, tok, seq, alt, opt, rep, as_tree, dep, grow, marked, any, is_in, begins_with}
+use Rattle.grammar.specs.LookAhead.{nullable, firsts, extensions, marks, LL1}
+use Rattle.grammar.specs.Language.{Sentence, many, steps, last_of, Derives, Ending, Fine, Marked, Breaks, one, empty_front, mark_front, Front}
+use Rattle.grammar.specs.code.Reading.{Out, Got, Stop, Read, then_do, kept, read_one, read_many, read_growth, read}
 use Rattle.grammar.specs.Aside.{bare}
 
 -- the same look-ahead
@@ -19,7 +19,7 @@ bare_nullable (rep a) = refl
 bare_nullable (as_tree f a) = bare_nullable a
 bare_nullable (dep a s f) = refl
 bare_nullable (grow x s f) = refl
-bare_nullable (labelled a) = bare_nullable a
+bare_nullable (marked a) = bare_nullable a
 
 pub bare_firsts : {L : Alphabet} {A : Type 0} (g : Grammar L A) → firsts (bare g) ≡ firsts g
 bare_firsts (nothing x) = refl
@@ -31,7 +31,7 @@ bare_firsts (rep a) = bare_firsts a
 bare_firsts (as_tree f a) = bare_firsts a
 bare_firsts (dep a s f) = bare_firsts a
 bare_firsts (grow x s f) = bare_firsts (f x)
-bare_firsts (labelled a) = bare_firsts a
+bare_firsts (marked a) = bare_firsts a
 
 pub bare_extensions : {L : Alphabet} {A : Type 0} (g : Grammar L A) → extensions (bare g) ≡ extensions g
 bare_extensions (nothing x) = refl
@@ -43,19 +43,19 @@ bare_extensions (rep a) = rw (bare_firsts a, bare_extensions a) refl
 bare_extensions (as_tree f a) = bare_extensions a
 bare_extensions (dep a s f) = refl
 bare_extensions (grow x s f) = refl
-bare_extensions (labelled a) = bare_extensions a
+bare_extensions (marked a) = bare_extensions a
 
-pub bare_labels : {L : Alphabet} {A : Type 0} (g : Grammar L A) → labels (bare g) ≡ labels g
-bare_labels (nothing x) = refl
-bare_labels (tok s p) = refl
-bare_labels (seq a b) = rw (bare_labels a, bare_nullable a, bare_labels b) refl
-bare_labels (alt a b) = rw (bare_labels a, bare_labels b) refl
-bare_labels (opt a) = bare_labels a
-bare_labels (rep a) = bare_labels a
-bare_labels (as_tree f a) = bare_labels a
-bare_labels (dep a s f) = bare_labels a
-bare_labels (grow x s f) = bare_labels (f x)
-bare_labels (labelled a) = refl
+pub bare_marks : {L : Alphabet} {A : Type 0} (g : Grammar L A) → marks (bare g) ≡ marks g
+bare_marks (nothing x) = refl
+bare_marks (tok s p) = refl
+bare_marks (seq a b) = rw (bare_marks a, bare_nullable a, bare_marks b) refl
+bare_marks (alt a b) = rw (bare_marks a, bare_marks b) refl
+bare_marks (opt a) = bare_marks a
+bare_marks (rep a) = bare_marks a
+bare_marks (as_tree f a) = bare_marks a
+bare_marks (dep a s f) = bare_marks a
+bare_marks (grow x s f) = bare_marks (f x)
+bare_marks (marked a) = refl
 
 pub bare_decided : {L : Alphabet} {A : Type 0} (g : Grammar L A) → LL1 g → LL1 (bare g)
 bare_decided (nothing x) p = tt
@@ -71,7 +71,7 @@ bare_decided (dep a s f) p = (
   λ x. (bare_decided (f x) (p.2 x).0, rw (bare_extensions a, bare_firsts (f x)) (p.2 x).1, λ e. rw (bare_extensions a) ((p.2 x).2 (sym (bare_nullable (f x)) ∙ e)), rw (bare_extensions (f x)) (p.2 x).3),
 )
 bare_decided (grow x s f) p = λ y. (bare_decided (f y) (p y).0, rw (bare_nullable (f y)) (p y).1, rw (bare_firsts (f y)) (p y).2, rw (bare_extensions (f y)) (p y).3, λ z. rw (bare_extensions (f y), bare_firsts (f z)) ((p y).4 z))
-bare_decided (labelled a) p = bare_decided a p
+bare_decided (marked a) p = bare_decided a p
 
 -- sentences and viable prefixes stay
 
@@ -95,33 +95,33 @@ derives_bare (rep a) ts xs w = many_stays (Derives a) (Derives (bare a)) (λ ts 
 derives_bare (as_tree f a) ts x w = (w.0, derives_bare a ts w.0 w.1, w.2)
 derives_bare (dep a s f) ts x w = (w.0, w.1, w.2, derives_bare a w.0 x.0 w.3, derives_bare (f x.0) w.1 x.1 w.4)
 derives_bare (grow z s f) ts x w = (w.0, w.1, steps_stay (λ y. Derives (f y)) (λ y. Derives (bare (f y))) (λ y ts x. derives_bare (f y) ts x) z w.0 ts w.2)
-derives_bare (labelled a) ts x w = derives_bare a ts x w
+derives_bare (marked a) ts x w = derives_bare a ts x w
 
 module _ {L : Alphabet} where
   -- without side rules none is broken
   abbrev pub eased : Ending L → Ending L
   eased Fine = Fine
-  eased Labelled = Labelled
+  eased Marked = Marked
   eased (Breaks r) = Fine
 
-one_bare : (L : Alphabet) (s : List ℕ) (p : L.Token → Option L.Rule) (m : Ending L) (ts : List L.Token) → one L s p m ts → one L s any (eased m) ts
+one_bare : (L : Alphabet) (s : List L.Kind) (p : L.Token → Option L.Rule) (m : Ending L) (ts : List L.Token) → one L s p m ts → one L s any (eased m) ts
 one_bare L s p Fine [] h = tt
 one_bare L s p Fine (t ∷ []) h = (h.0, refl)
 one_bare L s p Fine (t ∷ u ∷ ts) h = h
-one_bare L s p Labelled ts h = h
+one_bare L s p Marked ts h = h
 one_bare L s p (Breaks r) [] h = tt
 one_bare L s p (Breaks r) (t ∷ []) h = (h.0, refl)
 one_bare L s p (Breaks r) (t ∷ u ∷ ts) h = h
 
 empty_bare : {L : Alphabet} (m : Ending L) (ts : List L.Token) → empty_front m ts → empty_front (eased m) ts
 empty_bare Fine ts h = h
-empty_bare Labelled ts h = h
+empty_bare Marked ts h = h
 empty_bare (Breaks r) ts h = absurd h
 
-label_bare : {L : Alphabet} (m : Ending L) (ts : List L.Token) → label_front m ts → label_front (eased m) ts
-label_bare Fine ts h = h
-label_bare Labelled ts h = h
-label_bare (Breaks r) ts h = absurd h
+mark_bare : {L : Alphabet} (m : Ending L) (ts : List L.Token) → mark_front m ts → mark_front (eased m) ts
+mark_bare Fine ts h = h
+mark_bare Marked ts h = h
+mark_bare (Breaks r) ts h = absurd h
 
 pub front_bare : {L : Alphabet} {A : Type 0} (g : Grammar L A) (m : Ending L) (ts : List L.Token) → Front g m ts → Front (bare g) (eased m) ts
 front_bare (nothing x) m ts h = empty_bare m ts h
@@ -136,8 +136,8 @@ front_bare (as_tree f a) m ts h = front_bare a m ts h
 front_bare (dep a s f) m ts (inl h) = inl (front_bare a m ts h)
 front_bare (dep a s f) m ts (inr h) = inr (h.0, h.1, h.2, h.3, derives_bare a h.1 h.0 h.4, front_bare (f h.0) m h.2 h.5)
 front_bare (grow z s f) m ts h = (h.0, h.1, h.2, h.3, steps_stay (λ y. Derives (f y)) (λ y. Derives (bare (f y))) (λ y ts x. derives_bare (f y) ts x) z h.0 h.1 h.4, front_bare (f (last_of z h.0)) m h.2 h.5)
-front_bare (labelled a) m ts (inl h) = inl (label_bare m ts h)
-front_bare (labelled a) m ts (inr h) = inr (front_bare a m ts h)
+front_bare (marked a) m ts (inl h) = inl (mark_bare m ts h)
+front_bare (marked a) m ts (inr h) = inr (front_bare a m ts h)
 
 -- the reading is the same, unless it comes to a token that breaks a side rule
 
@@ -154,7 +154,7 @@ module _ (L : Alphabet) where
       go (Stop w us) = inl refl
   then_same o q k l (inr e) h = inr (e.0, e.1, ap (λ z. then_do z l) e.2)
 
-  one_same : (s : List ℕ) (p : L.Token → Option L.Rule) (c : Bool) (ts : List L.Token) → SameOut (read_one L s any c ts) (read_one L s p c ts)
+  one_same : (s : List L.Kind) (p : L.Token → Option L.Rule) (c : Bool) (ts : List L.Token) → SameOut (read_one L s any c ts) (read_one L s p c ts)
   one_same s p c [] = inl refl
   one_same s p c (t ∷ ts) = go (is_in L t s) (p t)
     where
@@ -167,11 +167,11 @@ module _ (L : Alphabet) where
   either_same true o q o' q' h k = h
   either_same false o q o' q' h k = k
 
-  many_same : {A : Type 0} (s : List ℕ) (y : Bool) (a b : Read L A) → ((c : Bool) (ts : List L.Token) → SameOut (a c ts) (b c ts)) → (n : ℕ) (c : Bool) (ts : List L.Token) → SameOut (read_many s y a n c ts) (read_many s y b n c ts)
+  many_same : {A : Type 0} (s : List L.Kind) (y : Bool) (a b : Read L A) → ((c : Bool) (ts : List L.Token) → SameOut (a c ts) (b c ts)) → (n : ℕ) (c : Bool) (ts : List L.Token) → SameOut (read_many s y a n c ts) (read_many s y b n c ts)
   many_same s y a b h zero c ts = inl refl
   many_same s y a b h (suc n) c ts = either_same (begins_with L s ts) _ _ _ _ (then_same (a c ts) (b c ts) _ _ (h c ts) (λ x d us. then_same (read_many s y a n d us) (read_many s y b n d us) _ _ (many_same s y a b h n d us) (λ xs e vs. inl refl))) (inl refl)
 
-  growth_same : {A : Type 0} (s u : A → List ℕ) (y v : A → Bool) (a b : A → Read L A) → ((z : A) → s z ≡ u z) → ((z : A) → y z ≡ v z) → ((z : A) (c : Bool) (ts : List L.Token) → SameOut (a z c ts) (b z c ts)) → (n : ℕ) (z : A) (c : Bool) (ts : List L.Token) → SameOut (read_growth s y a n z c ts) (read_growth u v b n z c ts)
+  growth_same : {A : Type 0} (s u : A → List L.Kind) (y v : A → Bool) (a b : A → Read L A) → ((z : A) → s z ≡ u z) → ((z : A) → y z ≡ v z) → ((z : A) (c : Bool) (ts : List L.Token) → SameOut (a z c ts) (b z c ts)) → (n : ℕ) (z : A) (c : Bool) (ts : List L.Token) → SameOut (read_growth s y a n z c ts) (read_growth u v b n z c ts)
   growth_same s u y v a b e f h zero z c ts = inl (ap (λ q. Got z (c || q) ts) (f z))
   growth_same s u y v a b e f h (suc n) z c ts =
       subst (λ q. SameOut (read_growth s y a (suc n) z c ts) (cond (begins_with L q ts) (then_do (b z c ts) (λ x d us. read_growth u v b n x d us)) (Got z (c || v z) ts))) (e z)
@@ -181,10 +181,10 @@ module _ (L : Alphabet) where
   same_or_broken (nothing x) c ts = inl refl
   same_or_broken (tok s p) c ts = one_same s p c ts
   same_or_broken (seq a b) c ts = then_same (read (bare a) c ts) (read a c ts) _ _ (same_or_broken a c ts) (λ x d us. then_same (read (bare b) d us) (read b d us) _ _ (same_or_broken b d us) (λ y e vs. inl refl))
-  same_or_broken (alt a b) c ts = rw (bare_firsts a, bare_labels a) (either_same (begins_with L (firsts a) ts) _ _ _ _ (same_or_broken a c ts) (same_or_broken b (c || labels a) ts))
-  same_or_broken (opt a) c ts = rw (bare_firsts a, bare_labels a) (either_same (begins_with L (firsts a) ts) _ _ _ _ (then_same (read (bare a) c ts) (read a c ts) _ _ (same_or_broken a c ts) (λ x d us. inl refl)) (inl refl))
-  same_or_broken (rep a) c ts = rw (bare_firsts a, bare_labels a) (many_same (firsts a) (labels a) (read (bare a)) (read a) (same_or_broken a) (length ts) c ts)
+  same_or_broken (alt a b) c ts = rw (bare_firsts a, bare_marks a) (either_same (begins_with L (firsts a) ts) _ _ _ _ (same_or_broken a c ts) (same_or_broken b (c || marks a) ts))
+  same_or_broken (opt a) c ts = rw (bare_firsts a, bare_marks a) (either_same (begins_with L (firsts a) ts) _ _ _ _ (then_same (read (bare a) c ts) (read a c ts) _ _ (same_or_broken a c ts) (λ x d us. inl refl)) (inl refl))
+  same_or_broken (rep a) c ts = rw (bare_firsts a, bare_marks a) (many_same (firsts a) (marks a) (read (bare a)) (read a) (same_or_broken a) (length ts) c ts)
   same_or_broken (as_tree f a) c ts = then_same (read (bare a) c ts) (read a c ts) _ _ (same_or_broken a c ts) (λ x d us. inl refl)
   same_or_broken (dep a s f) c ts = then_same (read (bare a) c ts) (read a c ts) _ _ (same_or_broken a c ts) (λ x d us. then_same (read (bare (f x)) d us) (read (f x) d us) _ _ (same_or_broken (f x) d us) (λ y e vs. inl refl))
-  same_or_broken (grow x s f) c ts = growth_same (λ y. firsts (bare (f y))) (λ y. firsts (f y)) (λ y. labels (bare (f y))) (λ y. labels (f y)) (λ y. read (bare (f y))) (λ y. read (f y)) (λ y. bare_firsts (f y)) (λ y. bare_labels (f y)) (λ y c ts. same_or_broken (f y) c ts) (length ts) x c ts
-  same_or_broken (labelled a) c ts = same_or_broken a true ts
+  same_or_broken (grow x s f) c ts = growth_same (λ y. firsts (bare (f y))) (λ y. firsts (f y)) (λ y. marks (bare (f y))) (λ y. marks (f y)) (λ y. read (bare (f y))) (λ y. read (f y)) (λ y. bare_firsts (f y)) (λ y. bare_marks (f y)) (λ y c ts. same_or_broken (f y) c ts) (length ts) x c ts
+  same_or_broken (marked a) c ts = same_or_broken a true ts

@@ -1,6 +1,6 @@
 -- Lists, and tests of kinds.
 use Rattle.std.specs.Prelude.{nat_eq}
-use Rattle.std.proofs.Common.{◌≡◌, ℕ, Bool, true, false, ◌||◌, ◌&&◌, List, [], ◌∷◌, ◌++◌, ◌⊎◌, inl, inr, refl, sym, ap, ◌∙◌, arith}
+use Rattle.std.proofs.Common.{◌≡◌, Bool, true, false, ◌||◌, ◌&&◌, List, [], ◌∷◌, ◌++◌, ◌⊎◌, inl, inr, refl, sym, ap, ◌∙◌, arith}
 use Rattle.grammar.specs.Grammar.{Alphabet, has, begins_with}
 use Rattle.grammar.specs.LookAhead.{apart, within}
 
@@ -22,25 +22,30 @@ pub and_cases : (a b : Bool) → (a && b) ≡ true → (a ≡ true) × (b ≡ tr
 and_cases true b e = (refl, e)
 and_cases false b e = absurd (cc)
 
-pub has-append : (xs ys : List ℕ) (n : ℕ) → has (xs ++ ys) n ≡ (has xs n || has ys n)
-has-append [] ys n = refl
-has-append (x ∷ xs) ys n = step (nat_eq x n) (has-append xs ys n)
+pub has-append : (L : Alphabet) (xs ys : List L.Kind) (k : L.Kind) → has L (xs ++ ys) k ≡ (has L xs k || has L ys k)
+has-append L [] ys k = refl
+has-append L (x ∷ xs) ys k = step (nat_eq (L.code x) (L.code k)) (has-append L xs ys k)
   where
-    step : (b : Bool) → has (xs ++ ys) n ≡ (has xs n || has ys n) → (b || has (xs ++ ys) n) ≡ ((b || has xs n) || has ys n)
+    step : (b : Bool) → has L (xs ++ ys) k ≡ (has L xs k || has L ys k) → (b || has L (xs ++ ys) k) ≡ ((b || has L xs k) || has L ys k)
     step true e = refl
     step false e = e
 
-pub begins-append : (L : Alphabet) (xs ys : List ℕ) (ts : List L.Token) → begins_with L (xs ++ ys) ts ≡ (begins_with L xs ts || begins_with L ys ts)
+pub begins-append : (L : Alphabet) (xs ys : List L.Kind) (ts : List L.Token) → begins_with L (xs ++ ys) ts ≡ (begins_with L xs ts || begins_with L ys ts)
 begins-append L xs ys [] = refl
-begins-append L xs ys (t ∷ ts) = has-append xs ys (L.kind t)
+begins-append L xs ys (t ∷ ts) = has-append L xs ys (L.kind t)
 
-pub apart_one : (xs ys : List ℕ) (n : ℕ) → apart xs ys ≡ true → has ys n ≡ true → has xs n ≡ false
-apart_one [] ys n e h = refl
-apart_one (x ∷ xs) ys n e h = grind (arith, apart_one xs ys n)
+-- one kind of a code is in the list as another is
+pub has_same : (L : Alphabet) (ys : List L.Kind) (j k : L.Kind) → L.code j ≡ L.code k → has L ys j ≡ has L ys k
+has_same L [] j k e = refl
+has_same L (y ∷ ys) j k e = rw (e, has_same L ys j k e) refl
 
-pub within_one : (xs ys : List ℕ) (n : ℕ) → within xs ys ≡ true → has ys n ≡ false → has xs n ≡ false
-within_one [] ys n e h = refl
-within_one (x ∷ xs) ys n e h = grind (arith, within_one xs ys n)
+pub apart_one : (L : Alphabet) (xs ys : List L.Kind) (k : L.Kind) → apart L xs ys ≡ true → has L ys k ≡ true → has L xs k ≡ false
+apart_one L [] ys k e h = refl
+apart_one L (x ∷ xs) ys k e h = grind (arith, apart_one L xs ys k, has_same L ys x k)
+
+pub within_one : (L : Alphabet) (xs ys : List L.Kind) (k : L.Kind) → within L xs ys ≡ true → has L ys k ≡ false → has L xs k ≡ false
+within_one L [] ys k e h = refl
+within_one L (x ∷ xs) ys k e h = grind (arith, within_one L xs ys k, has_same L ys x k)
 
 pub or_false : (a b : Bool) → (a || b) ≡ false → (a ≡ false) × (b ≡ false)
 or_false true b e = absurd (cc)

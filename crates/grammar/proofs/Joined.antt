@@ -6,8 +6,8 @@ use Rattle.grammar.specs.declared.fault.Fault.{Fault}
 use Rattle.grammar.specs.declared.fault.Fault.TheVariants.{Unexpected, Broken}
 use Rattle.grammar.specs.Grammar.{Alphabet, Grammar, alt}
 use Rattle.grammar.specs.LookAhead.{LL1}
-use Rattle.grammar.specs.Language.{Derives, Fine, Labelled, Breaks, Front, IsFault, Misread, Answer, Holds}
-use Rattle.grammar.specs.Reading.{Out, Got, Stop, read, answer}
+use Rattle.grammar.specs.Language.{Derives, Fine, Marked, Breaks, Front, IsFault, Misread, Answer, Holds}
+use Rattle.grammar.specs.code.Reading.{Out, Got, Stop, read, answer}
 use Rattle.grammar.specs.Union.{EitherDerives, EitherBreaks, IsEitherFault, EitherMisread, EitherHolds, join_faults, later, join, JoinHolds}
 use Rattle.grammar.proofs.Basics.{append_none, or_cases, or_right, or_left}
 use Rattle.grammar.proofs.Begin.{Ends}
@@ -17,13 +17,13 @@ use Rattle.grammar.proofs.Answer.{derives_front, front_prefix, split_cases, last
 use Rattle.grammar.proofs.Same.{fine_of}
 
 module _ (L : Alphabet) {A : Type 0} (g : Grammar L A) (p : LL1 g) where
-  labelled_ends : (o : Out L A) → Ends L Labelled o → Ends L Fine o
-  labelled_ends (Got x d rest) e = (e.0, tt)
-  labelled_ends (Stop (Unexpected d) rest) e = (e.0, tt)
-  labelled_ends (Stop (Broken r) rest) e = absurd e
+  marked_ends : (o : Out L A) → Ends L Marked o → Ends L Fine o
+  marked_ends (Got x d rest) e = (e.0, tt)
+  marked_ends (Stop (Unexpected d) rest) e = (e.0, tt)
+  marked_ends (Stop (Broken r) rest) e = absurd e
 
-  labelled_fine : (us : List L.Token) → Front g Labelled us → Front g Fine us
-  labelled_fine us h = fine_of L g p us (read g false us) (labelled_ends (read g false us) (front_read L g p Labelled us h false)) (swaps L g p false us)
+  marked_fine : (us : List L.Token) → Front g Marked us → Front g Fine us
+  marked_fine us h = fine_of L g p us (read g false us) (marked_ends (read g false us) (front_read L g p Marked us h false)) (swaps L g p false us)
 
   -- what stands before a token that breaks a side rule is fine
   breaks_fine : (us : List L.Token) (t : L.Token) (r : L.Rule) → Front g (Breaks r) (us ++ t ∷ []) → Front g Fine us
@@ -58,16 +58,16 @@ module _ (L : Alphabet) {A : Type 0} (g h : Grammar L A) (p : LL1 g) (q : LL1 h)
   -- h goes further than g, or g further than h
 
   second_further : (us rest : List L.Token) (f : Fault L.Rule) → IsFault h us rest f → (Front g Fine us → ⊥) → IsEitherFault g h us rest f
-  second_further us [] (Unexpected d) n k = (λ x. none x, λ i. inr (n.1 i), labelled)
+  second_further us [] (Unexpected d) n k = (λ x. none x, λ i. inr (n.1 i), marked)
     where
       none : (x : A) → Derives g us x ⊎ Derives h us x → ⊥
       none x (inl w) = k (derives_front L g us x w)
       none x (inr w) = n.0 x w
 
-      labelled : Front g Labelled us ⊎ Front h Labelled us → d ≡ true
-      labelled (inl w) = absurd (k (labelled_fine L g p us w))
-      labelled (inr w) = n.2 w
-  second_further us (t ∷ v) (Unexpected d) n k = ((fine, λ r. breaks r), λ i. inr (n.1 i), labelled)
+      marked : Front g Marked us ⊎ Front h Marked us → d ≡ true
+      marked (inl w) = absurd (k (marked_fine L g p us w))
+      marked (inr w) = n.2 w
+  second_further us (t ∷ v) (Unexpected d) n k = ((fine, λ r. breaks r), λ i. inr (n.1 i), marked)
     where
       fine : Front g Fine (us ++ t ∷ []) ⊎ Front h Fine (us ++ t ∷ []) → ⊥
       fine (inl w) = k (front_prefix L g p us (t ∷ []) w)
@@ -77,9 +77,9 @@ module _ (L : Alphabet) {A : Type 0} (g h : Grammar L A) (p : LL1 g) (q : LL1 h)
       breaks r (inl w) = k (breaks_fine L g p us t r w)
       breaks r (inr w) = n.0.1 r w
 
-      labelled : Front g Labelled us ⊎ Front h Labelled us → d ≡ true
-      labelled (inl w) = absurd (k (labelled_fine L g p us w))
-      labelled (inr w) = n.2 w
+      marked : Front g Marked us ⊎ Front h Marked us → d ≡ true
+      marked (inl w) = absurd (k (marked_fine L g p us w))
+      marked (inr w) = n.2 w
   second_further us [] (Broken r) n k = n
   second_further us (t ∷ v) (Broken r) n k = (inr (n.0, λ b w. k (breaks_fine L g p us t b w)), fine)
     where
@@ -88,16 +88,16 @@ module _ (L : Alphabet) {A : Type 0} (g h : Grammar L A) (p : LL1 g) (q : LL1 h)
       fine (inr w) = n.1 w
 
   first_further : (us rest : List L.Token) (f : Fault L.Rule) → IsFault g us rest f → (Front h Fine us → ⊥) → IsEitherFault g h us rest f
-  first_further us [] (Unexpected d) n k = (λ x. none x, λ i. inl (n.1 i), labelled)
+  first_further us [] (Unexpected d) n k = (λ x. none x, λ i. inl (n.1 i), marked)
     where
       none : (x : A) → Derives g us x ⊎ Derives h us x → ⊥
       none x (inl w) = n.0 x w
       none x (inr w) = k (derives_front L h us x w)
 
-      labelled : Front g Labelled us ⊎ Front h Labelled us → d ≡ true
-      labelled (inl w) = n.2 w
-      labelled (inr w) = absurd (k (labelled_fine L h q us w))
-  first_further us (t ∷ v) (Unexpected d) n k = ((fine, λ r. breaks r), λ i. inl (n.1 i), labelled)
+      marked : Front g Marked us ⊎ Front h Marked us → d ≡ true
+      marked (inl w) = n.2 w
+      marked (inr w) = absurd (k (marked_fine L h q us w))
+  first_further us (t ∷ v) (Unexpected d) n k = ((fine, λ r. breaks r), λ i. inl (n.1 i), marked)
     where
       fine : Front g Fine (us ++ t ∷ []) ⊎ Front h Fine (us ++ t ∷ []) → ⊥
       fine (inl w) = n.0.0 w
@@ -107,9 +107,9 @@ module _ (L : Alphabet) {A : Type 0} (g h : Grammar L A) (p : LL1 g) (q : LL1 h)
       breaks r (inl w) = n.0.1 r w
       breaks r (inr w) = k (breaks_fine L h q us t r w)
 
-      labelled : Front g Labelled us ⊎ Front h Labelled us → d ≡ true
-      labelled (inl w) = n.2 w
-      labelled (inr w) = absurd (k (labelled_fine L h q us w))
+      marked : Front g Marked us ⊎ Front h Marked us → d ≡ true
+      marked (inl w) = n.2 w
+      marked (inr w) = absurd (k (marked_fine L h q us w))
   first_further us [] (Broken r) n k = n
   first_further us (t ∷ v) (Broken r) n k = (inl n.0, fine)
     where
@@ -119,24 +119,24 @@ module _ (L : Alphabet) {A : Type 0} (g h : Grammar L A) (p : LL1 g) (q : LL1 h)
 
   -- both stop at one token
 
-  both_labelled : (us : List L.Token) (d e : Bool) → (d ≡ true → Front g Labelled us) → (e ≡ true → Front h Labelled us) → (d || e) ≡ true → Front g Labelled us ⊎ Front h Labelled us
-  both_labelled us d e i k b = go (or_cases d e b)
+  both_marked : (us : List L.Token) (d e : Bool) → (d ≡ true → Front g Marked us) → (e ≡ true → Front h Marked us) → (d || e) ≡ true → Front g Marked us ⊎ Front h Marked us
+  both_marked us d e i k b = go (or_cases d e b)
     where
-      go : (d ≡ true) ⊎ (e ≡ true) → Front g Labelled us ⊎ Front h Labelled us
+      go : (d ≡ true) ⊎ (e ≡ true) → Front g Marked us ⊎ Front h Marked us
       go (inl c) = inl (i c)
       go (inr c) = inr (k c)
 
-  labelled_both : (us : List L.Token) (d e : Bool) → (Front g Labelled us → d ≡ true) → (Front h Labelled us → e ≡ true) → Front g Labelled us ⊎ Front h Labelled us → (d || e) ≡ true
-  labelled_both us d e i k (inl w) = or_left d e (i w)
-  labelled_both us d e i k (inr w) = or_right d e (k w)
+  marked_both : (us : List L.Token) (d e : Bool) → (Front g Marked us → d ≡ true) → (Front h Marked us → e ≡ true) → Front g Marked us ⊎ Front h Marked us → (d || e) ≡ true
+  marked_both us d e i k (inl w) = or_left d e (i w)
+  marked_both us d e i k (inr w) = or_right d e (k w)
 
   together : (us rest : List L.Token) (f c : Fault L.Rule) → IsFault g us rest f → IsFault h us rest c → IsEitherFault g h us rest (join_faults f c)
-  together us [] (Unexpected d) (Unexpected e) n m = (λ x. none x, both_labelled us d e n.1 m.1, labelled_both us d e n.2 m.2)
+  together us [] (Unexpected d) (Unexpected e) n m = (λ x. none x, both_marked us d e n.1 m.1, marked_both us d e n.2 m.2)
     where
       none : (x : A) → Derives g us x ⊎ Derives h us x → ⊥
       none x (inl w) = n.0 x w
       none x (inr w) = m.0 x w
-  together us (t ∷ v) (Unexpected d) (Unexpected e) n m = ((fine, λ r. breaks r), both_labelled us d e n.1 m.1, labelled_both us d e n.2 m.2)
+  together us (t ∷ v) (Unexpected d) (Unexpected e) n m = ((fine, λ r. breaks r), both_marked us d e n.1 m.1, marked_both us d e n.2 m.2)
     where
       fine : Front g Fine (us ++ t ∷ []) ⊎ Front h Fine (us ++ t ∷ []) → ⊥
       fine (inl w) = n.0.0 w

@@ -4,14 +4,14 @@ use Rattle.grammar.specs.declared.fault.Fault.{Fault}
 use Rattle.grammar.specs.declared.fault.Fault.TheVariants.{Unexpected, Broken}
 use Rattle.grammar.specs.Grammar.{Alphabet, Grammar}
 use Rattle.grammar.specs.LookAhead.{LL1}
-use Rattle.grammar.specs.Language.{Derives, Ending, Fine, Labelled, Breaks, Front, IsFault}
-use Rattle.grammar.specs.Reading.{Out, Got, Stop, read}
+use Rattle.grammar.specs.Language.{Derives, Ending, Fine, Marked, Breaks, Front, IsFault}
+use Rattle.grammar.specs.code.Reading.{Out, Got, Stop, read}
 use Rattle.grammar.specs.Aside.{bare, KeepsRules, IsFaultAside, SameFault}
 use Rattle.grammar.proofs.Basics.{no_parts, ends_none}
 use Rattle.grammar.proofs.Begin.{Ends}
 use Rattle.grammar.proofs.Complete.{derives_read, front_read}
 use Rattle.grammar.proofs.Swap.{Swapped, swaps}
-use Rattle.grammar.proofs.Answer.{derives_front, front_prefix, split_cases, label_says}
+use Rattle.grammar.proofs.Answer.{derives_front, front_prefix, split_cases, mark_says}
 use Rattle.grammar.proofs.Bare.{bare_decided, derives_bare, front_bare, SameOut, same_or_broken}
 
 module _ (L : Alphabet) {A : Type 0} (g : Grammar L A) (p : LL1 g) where
@@ -49,10 +49,10 @@ module _ (L : Alphabet) {A : Type 0} (g : Grammar L A) (p : LL1 g) where
   fine_of us (Stop (Unexpected d) rest) e h = subst (Front g Fine) (sym (h.1 ∙ ends_none h.0 rest e.0)) h.2
   fine_of us (Stop (Broken r) rest) e h = absurd e
 
-  labelled_of : (us : List L.Token) (o : Out L A) → Ends L Labelled o → Swapped L (Derives g) (Front g) (read g) false us o → Front g Labelled us
-  labelled_of us (Got x d rest) e h = subst (Front g Labelled) (sym (h.1 ∙ ends_none h.0 rest e.0)) (label_says L g p h.0 d h.3 e.1)
-  labelled_of us (Stop (Unexpected d) rest) e h = subst (Front g Labelled) (sym (h.1 ∙ ends_none h.0 rest e.0)) (label_says L g p h.0 d h.3 e.1)
-  labelled_of us (Stop (Broken r) rest) e h = absurd e
+  marked_of : (us : List L.Token) (o : Out L A) → Ends L Marked o → Swapped L (Derives g) (Front g) (read g) false us o → Front g Marked us
+  marked_of us (Got x d rest) e h = subst (Front g Marked) (sym (h.1 ∙ ends_none h.0 rest e.0)) (mark_says L g p h.0 d h.3 e.1)
+  marked_of us (Stop (Unexpected d) rest) e h = subst (Front g Marked) (sym (h.1 ∙ ends_none h.0 rest e.0)) (mark_says L g p h.0 d h.3 e.1)
+  marked_of us (Stop (Broken r) rest) e h = absurd e
 
   -- without side rules, and none is broken
 
@@ -72,8 +72,8 @@ module _ (L : Alphabet) {A : Type 0} (g : Grammar L A) (p : LL1 g) where
   bare_fine : (us : List L.Token) → Front (bare g) Fine us → KeepsRules g us → Front g Fine us
   bare_fine us h k = fine_of us (read g false us) (kept_ends Fine us h k) (swaps L g p false us)
 
-  bare_labelled : (us : List L.Token) → Front (bare g) Labelled us → KeepsRules g us → Front g Labelled us
-  bare_labelled us h k = labelled_of us (read g false us) (kept_ends Labelled us h k) (swaps L g p false us)
+  bare_marked : (us : List L.Token) → Front (bare g) Marked us → KeepsRules g us → Front g Marked us
+  bare_marked us h k = marked_of us (read g false us) (kept_ends Marked us h k) (swaps L g p false us)
 
   bare_derives : (us : List L.Token) (x : A) → Derives (bare g) us x → KeepsRules g us → Derives g us x
   bare_derives us x w k =
@@ -85,14 +85,14 @@ module _ (L : Alphabet) {A : Type 0} (g : Grammar L A) (p : LL1 g) where
   -- the two faults
 
   fault_aside : (f : Fault L.Rule) (us rest : List L.Token) → Front g Fine us → IsFault g us rest f → IsFaultAside g us rest f
-  fault_aside (Unexpected d) us [] h n = (λ x w. n.0 x (bare_derives us x w (fine_keeps us h)), λ i. front_bare g Labelled us (n.1 i), λ k. n.2 (bare_labelled us k (fine_keeps us h)))
-  fault_aside (Unexpected d) us (t ∷ v) h n = (λ k. n.0.0 (bare_fine (us ++ t ∷ []) k (keeps_last us t h n.0.1)), λ i. front_bare g Labelled us (n.1 i), λ k. n.2 (bare_labelled us k (fine_keeps us h)))
+  fault_aside (Unexpected d) us [] h n = (λ x w. n.0 x (bare_derives us x w (fine_keeps us h)), λ i. front_bare g Marked us (n.1 i), λ k. n.2 (bare_marked us k (fine_keeps us h)))
+  fault_aside (Unexpected d) us (t ∷ v) h n = (λ k. n.0.0 (bare_fine (us ++ t ∷ []) k (keeps_last us t h n.0.1)), λ i. front_bare g Marked us (n.1 i), λ k. n.2 (bare_marked us k (fine_keeps us h)))
   fault_aside (Broken r) us [] h n = n
   fault_aside (Broken r) us (t ∷ v) h n = n.0
 
   fault_kept : (f : Fault L.Rule) (us rest : List L.Token) → KeepsRules g us → IsFaultAside g us rest f → IsFault g us rest f
-  fault_kept (Unexpected d) us [] k n = (λ x w. n.0 x (derives_bare g us x w), λ i. bare_labelled us (n.1 i) k, λ h. n.2 (front_bare g Labelled us h))
-  fault_kept (Unexpected d) us (t ∷ v) k n = ((λ h. n.0 (front_bare g Fine (us ++ t ∷ []) h), λ r h. n.0 (front_bare g (Breaks r) (us ++ t ∷ []) h)), λ i. bare_labelled us (n.1 i) k, λ h. n.2 (front_bare g Labelled us h))
+  fault_kept (Unexpected d) us [] k n = (λ x w. n.0 x (derives_bare g us x w), λ i. bare_marked us (n.1 i) k, λ h. n.2 (front_bare g Marked us h))
+  fault_kept (Unexpected d) us (t ∷ v) k n = ((λ h. n.0 (front_bare g Fine (us ++ t ∷ []) h), λ r h. n.0 (front_bare g (Breaks r) (us ++ t ∷ []) h)), λ i. bare_marked us (n.1 i) k, λ h. n.2 (front_bare g Marked us h))
   fault_kept (Broken r) us [] k n = n
   fault_kept (Broken r) us (t ∷ v) k n = (n, λ h. fine_breaks (us ++ t ∷ []) r h n)
 

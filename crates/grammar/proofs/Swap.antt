@@ -2,10 +2,10 @@
 use Rattle.std.proofs.Common.{◌≡◌, ℕ, zero, suc, ◌<◌, ◌≤◌, Bool, true, false, ◌||◌, ◌&&◌, cond, Option, Some, None, List, [], ◌∷◌, ◌++◌, length, ◌⊎◌, inl, inr, refl, sym, ap, ◌∙◌, subst, append_assoc, length-append, arith}
 use Rattle.grammar.specs.declared.fault.Fault.{Fault}
 use Rattle.grammar.specs.declared.fault.Fault.TheVariants.{Unexpected, Broken}
-use Rattle.grammar.specs.Grammar.{Alphabet, Grammar, nothing, tok, seq, alt, opt, rep, as_tree, dep, grow, labelled, is_in, begins_with}
-use Rattle.grammar.specs.LookAhead.{nullable, firsts, labels, LL1}
-use Rattle.grammar.specs.Language.{Sentence, both, maybe, many, growth, Derives, Ending, Fine, Labelled, Breaks, Prefixes, one, label_front, both_front, many_front, growth_front, Front}
-use Rattle.grammar.specs.Reading.{Out, Got, Stop, Read, then_do, kept, read_one, read_both, read_maybe, read_many, read_growth, read}
+use Rattle.grammar.specs.Grammar.{Alphabet, Grammar, nothing, tok, seq, alt, opt, rep, as_tree, dep, grow, marked, is_in, begins_with}
+use Rattle.grammar.specs.LookAhead.{nullable, firsts, marks, LL1}
+use Rattle.grammar.specs.Language.{Sentence, both, maybe, many, growth, Derives, Ending, Fine, Marked, Breaks, Prefixes, one, mark_front, both_front, many_front, growth_front, Front}
+use Rattle.grammar.specs.code.Reading.{Out, Got, Stop, Read, then_do, kept, read_one, read_both, read_maybe, read_many, read_growth, read}
 use Rattle.grammar.proofs.Basics.{or_cases, and_cases, ends_none}
 use Rattle.grammar.proofs.Going.{Moved, Moves, moves}
 
@@ -30,23 +30,23 @@ module _ (L : Alphabet) where
   alike_front [] rest v h = h
   alike_front (u ∷ us) rest v h = refl
 
-  -- where the reading says that a labelled part may begin next, one may
-  abbrev pub LabelFact : Prefixes L → Bool → List L.Token → Bool → Type 0
-  LabelFact p c us d = d ≡ true → ((us ≡ []) × (c ≡ true)) ⊎ p Labelled us
+  -- where the reading says that a marked part may begin next, one may
+  abbrev pub MarkFact : Prefixes L → Bool → List L.Token → Bool → Type 0
+  MarkFact p c us d = d ≡ true → ((us ≡ []) × (c ≡ true)) ⊎ p Marked us
 
   abbrev pub FaultFact : Prefixes L → Bool → List L.Token → Fault L.Rule → List L.Token → Type 0
-  FaultFact p c us (Unexpected d) rest = LabelFact p c us d
+  FaultFact p c us (Unexpected d) rest = MarkFact p c us d
   FaultFact p c us (Broken r) rest = (t : L.Token) × (v : List L.Token) × (rest ≡ t ∷ v) × p (Breaks r) (us ++ t ∷ [])
 
   -- What is read is a sentence, what is read before a fault is a viable prefix, and the reading is the same before other tokens.
   abbrev pub Swapped : {A : Type 0} → Sentence L.Token A → Prefixes L → Read L A → Bool → List L.Token → Out L A → Type 0
-  Swapped w p r c ts (Got x d rest) = (us : List L.Token) × (ts ≡ us ++ rest) × w us x × LabelFact p c us d × ((v : List L.Token) → alike rest v → r c (us ++ v) ≡ Got x d v)
+  Swapped w p r c ts (Got x d rest) = (us : List L.Token) × (ts ≡ us ++ rest) × w us x × MarkFact p c us d × ((v : List L.Token) → alike rest v → r c (us ++ v) ≡ Got x d v)
   Swapped w p r c ts (Stop y rest) = (us : List L.Token) × (ts ≡ us ++ rest) × p Fine us × FaultFact p c us y rest × ((v : List L.Token) → alike_for y rest v → r c (us ++ v) ≡ Stop y v)
 
   abbrev pub Swaps : {A : Type 0} → Sentence L.Token A → Prefixes L → Read L A → Type 0
   Swaps w p r = (c : Bool) (ts : List L.Token) → Swapped w p r c ts (r c ts)
 
-  one_swaps : (s : List ℕ) (p : L.Token → Option L.Rule) → Swaps (λ ts t. (ts ≡ t ∷ []) × (is_in L t s ≡ true) × (p t ≡ None)) (one L s p) (read_one L s p)
+  one_swaps : (s : List L.Kind) (p : L.Token → Option L.Rule) → Swaps (λ ts t. (ts ≡ t ∷ []) × (is_in L t s ≡ true) × (p t ≡ None)) (one L s p) (read_one L s p)
   one_swaps s p c [] = ([], refl, tt, (λ e. inl (refl, e)), nothing_else)
     where
       nothing_else : (v : List L.Token) → alike [] v → read_one L s p c v ≡ Stop (Unexpected c) v
@@ -71,30 +71,30 @@ module _ (L : Alphabet) where
       go false e o f = ([], refl, tt, (λ x. inl (refl, x)), same e)
 
   module _ {A B : Type 0} (wa : Sentence L.Token A) (pa : Prefixes L) (ra : Read L A) (wb : A → Sentence L.Token B) (pb : A → Prefixes L) (rb : A → Read L B) where
-    second_label : (x : A) (c : Bool) (us : List L.Token) (d : Bool) (vs : List L.Token) (e : Bool) → wa us x → LabelFact pa c us d → LabelFact (pb x) d vs e → LabelFact (both_front wa pa pb) c (us ++ vs) e
-    second_label x c us d vs e w f g h = go (g h)
+    second_mark : (x : A) (c : Bool) (us : List L.Token) (d : Bool) (vs : List L.Token) (e : Bool) → wa us x → MarkFact pa c us d → MarkFact (pb x) d vs e → MarkFact (both_front wa pa pb) c (us ++ vs) e
+    second_mark x c us d vs e w f g h = go (g h)
       where
-        first : vs ≡ [] → ((us ≡ []) × (c ≡ true)) ⊎ pa Labelled us → ((us ++ vs ≡ []) × (c ≡ true)) ⊎ both_front wa pa pb Labelled (us ++ vs)
+        first : vs ≡ [] → ((us ≡ []) × (c ≡ true)) ⊎ pa Marked us → ((us ++ vs ≡ []) × (c ≡ true)) ⊎ both_front wa pa pb Marked (us ++ vs)
         first n (inl i) = inl (ends_none us vs n ∙ i.0, i.1)
-        first n (inr i) = inr (inl (subst (pa Labelled) (sym (ends_none us vs n)) i))
+        first n (inr i) = inr (inl (subst (pa Marked) (sym (ends_none us vs n)) i))
 
-        go : ((vs ≡ []) × (d ≡ true)) ⊎ pb x Labelled vs → ((us ++ vs ≡ []) × (c ≡ true)) ⊎ both_front wa pa pb Labelled (us ++ vs)
+        go : ((vs ≡ []) × (d ≡ true)) ⊎ pb x Marked vs → ((us ++ vs ≡ []) × (c ≡ true)) ⊎ both_front wa pa pb Marked (us ++ vs)
         go (inl i) = first i.0 (f i.1)
         go (inr i) = inr (inr (x, us, vs, refl, w, i))
 
-    first_label : (c : Bool) (us : List L.Token) (d : Bool) → LabelFact pa c us d → LabelFact (both_front wa pa pb) c us d
-    first_label c us d h e = go (h e)
+    first_mark : (c : Bool) (us : List L.Token) (d : Bool) → MarkFact pa c us d → MarkFact (both_front wa pa pb) c us d
+    first_mark c us d h e = go (h e)
       where
-        go : ((us ≡ []) × (c ≡ true)) ⊎ pa Labelled us → ((us ≡ []) × (c ≡ true)) ⊎ both_front wa pa pb Labelled us
+        go : ((us ≡ []) × (c ≡ true)) ⊎ pa Marked us → ((us ≡ []) × (c ≡ true)) ⊎ both_front wa pa pb Marked us
         go (inl i) = inl i
         go (inr i) = inr (inl i)
 
     first_fault : (c : Bool) (us : List L.Token) (y : Fault L.Rule) (rest : List L.Token) → FaultFact pa c us y rest → FaultFact (both_front wa pa pb) c us y rest
-    first_fault c us (Unexpected d) rest h = first_label c us d h
+    first_fault c us (Unexpected d) rest h = first_mark c us d h
     first_fault c us (Broken r) rest h = (h.0, h.1, h.2, inl h.3)
 
-    second_fault : (x : A) (c : Bool) (us : List L.Token) (d : Bool) (vs : List L.Token) (y : Fault L.Rule) (rest : List L.Token) → wa us x → LabelFact pa c us d → FaultFact (pb x) d vs y rest → FaultFact (both_front wa pa pb) c (us ++ vs) y rest
-    second_fault x c us d vs (Unexpected e) rest w f h = second_label x c us d vs e w f h
+    second_fault : (x : A) (c : Bool) (us : List L.Token) (d : Bool) (vs : List L.Token) (y : Fault L.Rule) (rest : List L.Token) → wa us x → MarkFact pa c us d → FaultFact (pb x) d vs y rest → FaultFact (both_front wa pa pb) c (us ++ vs) y rest
+    second_fault x c us d vs (Unexpected e) rest w f h = second_mark x c us d vs e w f h
     second_fault x c us d vs (Broken r) rest w f h = (h.0, h.1, h.2, inr (x, us, vs ++ h.0 ∷ [], append_assoc us vs (h.0 ∷ []), w, h.3))
 
     second_swap : (c : Bool) (ts : List L.Token) (x : A) (d : Bool) (mid : List L.Token) → Swapped wa pa ra c ts (Got x d mid) → (o : Out L B) → Swapped (wb x) (pb x) (rb x) d mid o → Swapped (both wa wb) (both_front wa pa pb) (read_both ra rb) c ts (then_do o (λ y e vs. Got (x, y) e vs))
@@ -102,7 +102,7 @@ module _ (L : Alphabet) where
       h.0 ++ g.0,
       h.1 ∙ ap (λ z. h.0 ++ z) g.1 ∙ sym (append_assoc h.0 g.0 rest),
       (h.0, g.0, refl, h.2, g.2),
-      second_label x c h.0 d g.0 e h.2 h.3 g.3,
+      second_mark x c h.0 d g.0 e h.2 h.3 g.3,
       λ v al. ap (read_both ra rb c) (append_assoc h.0 g.0 v) ∙ ap (λ o. then_do o (λ x d us. then_do (rb x d us) (λ y e vs. Got (x, y) e vs))) (h.4 (g.0 ++ v) (subst (λ m. alike m (g.0 ++ v)) (sym g.1) (alike_front g.0 rest v al))) ∙ ap (λ o. then_do o (λ y e vs. Got (x, y) e vs)) (g.4 v al),
     )
     second_swap c ts x d mid h (Stop y rest) g = (
@@ -122,33 +122,33 @@ module _ (L : Alphabet) where
 
   -- what a test of the next token says before other tokens
 
-  begins_kept : (s : List ℕ) (ts us rest v : List L.Token) → ts ≡ us ++ rest → length rest < length ts → begins_with L s ts ≡ true → begins_with L s (us ++ v) ≡ true
+  begins_kept : (s : List L.Kind) (ts us rest v : List L.Token) → ts ≡ us ++ rest → length rest < length ts → begins_with L s ts ≡ true → begins_with L s (us ++ v) ≡ true
   begins_kept s ts [] rest v e m h = absurd (omega (arith, ap length e))
   begins_kept s ts (u ∷ us) rest v e m h = subst (λ z. begins_with L s z ≡ true) e h
 
-  alike_begins : (s : List ℕ) (ts : List L.Token) (t : L.Token) (v : List L.Token) → alike ts (t ∷ v) → begins_with L s ts ≡ true → begins_with L s (t ∷ v) ≡ true
+  alike_begins : (s : List L.Kind) (ts : List L.Token) (t : L.Token) (v : List L.Token) → alike ts (t ∷ v) → begins_with L s ts ≡ true → begins_with L s (t ∷ v) ≡ true
   alike_begins s [] t v al h = absurd al
   alike_begins s (u ∷ ts) t v al h = subst (λ z. is_in L z s ≡ true) (sym al) h
 
-  alike_not : (s : List ℕ) (ts v : List L.Token) → alike ts v → begins_with L s ts ≡ false → begins_with L s v ≡ false
+  alike_not : (s : List L.Kind) (ts v : List L.Token) → alike ts v → begins_with L s ts ≡ false → begins_with L s v ≡ false
   alike_not s ts [] al h = refl
   alike_not s [] (t ∷ v) al h = absurd al
   alike_not s (u ∷ ts) (t ∷ v) al h = subst (λ z. is_in L z s ≡ false) (sym al) h
 
-  stop_kept : (A : Type 0) (s : List ℕ) (ts us rest v : List L.Token) (y : Fault L.Rule) → ts ≡ us ++ rest → Moved L {A = A} ts (Stop y rest) → alike_for y rest v → begins_with L s ts ≡ true → begins_with L s (us ++ v) ≡ true
+  stop_kept : (A : Type 0) (s : List L.Kind) (ts us rest v : List L.Token) (y : Fault L.Rule) → ts ≡ us ++ rest → Moved L {A = A} ts (Stop y rest) → alike_for y rest v → begins_with L s ts ≡ true → begins_with L s (us ++ v) ≡ true
   stop_kept A s ts us rest v (Unexpected d) e m al h = begins_kept s ts us rest v e m h
   stop_kept A s ts us rest [] (Broken r) e m al h = absurd al
   stop_kept A s ts [] rest (t ∷ v) (Broken r) e m al h = alike_begins s ts t v (subst (λ z. alike z (t ∷ v)) (sym e) al) h
   stop_kept A s ts (u ∷ us) rest (t ∷ v) (Broken r) e m al h = subst (λ z. begins_with L s z ≡ true) e h
 
-  or_label : (p : Prefixes L) (c y : Bool) (us : List L.Token) → us ≡ [] → (y ≡ true → p Labelled []) → LabelFact p c us (c || y)
-  or_label p c y us n f e = go (or_cases c y e)
+  or_mark : (p : Prefixes L) (c y : Bool) (us : List L.Token) → us ≡ [] → (y ≡ true → p Marked []) → MarkFact p c us (c || y)
+  or_mark p c y us n f e = go (or_cases c y e)
     where
-      go : (c ≡ true) ⊎ (y ≡ true) → ((us ≡ []) × (c ≡ true)) ⊎ p Labelled us
+      go : (c ≡ true) ⊎ (y ≡ true) → ((us ≡ []) × (c ≡ true)) ⊎ p Marked us
       go (inl i) = inl (n, i)
-      go (inr i) = inr (subst (p Labelled) (sym n) (f i))
+      go (inr i) = inr (subst (p Marked) (sym n) (f i))
 
-  module _ {A : Type 0} (s : List ℕ) (y : Bool) (wa : Sentence L.Token A) (pa : Prefixes L) (ra : Read L A) (begins_label : y ≡ true → pa Labelled []) where
+  module _ {A : Type 0} (s : List L.Kind) (y : Bool) (wa : Sentence L.Token A) (pa : Prefixes L) (ra : Read L A) (begins_mark : y ≡ true → pa Marked []) where
     maybe_taken : (c : Bool) (ts : List L.Token) → begins_with L s ts ≡ true → (o : Out L A) → Moved L ts o → Swapped wa pa ra c ts o → Swapped (maybe wa) pa (read_maybe s y ra) c ts (then_do o (λ x d us. Got (Some x) d us))
     maybe_taken c ts e (Got x d rest) m h = (
       h.0,
@@ -176,33 +176,33 @@ module _ (L : Alphabet) where
       where
         go : (b : Bool) → begins_with L s ts ≡ b → Swapped (maybe wa) pa (read_maybe s y ra) c ts (cond b (then_do (ra c ts) (λ x d us. Got (Some x) d us)) (Got None (c || y) ts))
         go true e = maybe_taken c ts e (ra c ts) (m c ts e) (h c ts)
-        go false e = ([], refl, refl, or_label pa c y [] refl begins_label, λ v al. let b : begins_with L s v ≡ false = alike_not s ts v al e in rw b refl)
+        go false e = ([], refl, refl, or_mark pa c y [] refl begins_mark, λ v al. let b : begins_with L s v ≡ false = alike_not s ts v al e in rw b refl)
 
     -- of two alternatives
-    left_label : (p : Prefixes L) (c : Bool) (us : List L.Token) (d : Bool) → LabelFact pa c us d → LabelFact (λ m ts. pa m ts ⊎ p m ts) c us d
-    left_label p c us d h e = go (h e)
+    left_mark : (p : Prefixes L) (c : Bool) (us : List L.Token) (d : Bool) → MarkFact pa c us d → MarkFact (λ m ts. pa m ts ⊎ p m ts) c us d
+    left_mark p c us d h e = go (h e)
       where
-        go : ((us ≡ []) × (c ≡ true)) ⊎ pa Labelled us → ((us ≡ []) × (c ≡ true)) ⊎ (pa Labelled us ⊎ p Labelled us)
+        go : ((us ≡ []) × (c ≡ true)) ⊎ pa Marked us → ((us ≡ []) × (c ≡ true)) ⊎ (pa Marked us ⊎ p Marked us)
         go (inl i) = inl i
         go (inr i) = inr (inl i)
 
     left_fault : (p : Prefixes L) (c : Bool) (us : List L.Token) (q : Fault L.Rule) (rest : List L.Token) → FaultFact pa c us q rest → FaultFact (λ m ts. pa m ts ⊎ p m ts) c us q rest
-    left_fault p c us (Unexpected d) rest h = left_label p c us d h
+    left_fault p c us (Unexpected d) rest h = left_mark p c us d h
     left_fault p c us (Broken r) rest h = (h.0, h.1, h.2, inl h.3)
 
-    right_label : (p : Prefixes L) (c : Bool) (us : List L.Token) (d : Bool) → LabelFact p (c || y) us d → LabelFact (λ m ts. pa m ts ⊎ p m ts) c us d
-    right_label p c us d h e = go (h e)
+    right_mark : (p : Prefixes L) (c : Bool) (us : List L.Token) (d : Bool) → MarkFact p (c || y) us d → MarkFact (λ m ts. pa m ts ⊎ p m ts) c us d
+    right_mark p c us d h e = go (h e)
       where
-        before : us ≡ [] → (c ≡ true) ⊎ (y ≡ true) → ((us ≡ []) × (c ≡ true)) ⊎ (pa Labelled us ⊎ p Labelled us)
+        before : us ≡ [] → (c ≡ true) ⊎ (y ≡ true) → ((us ≡ []) × (c ≡ true)) ⊎ (pa Marked us ⊎ p Marked us)
         before n (inl i) = inl (n, i)
-        before n (inr i) = inr (inl (subst (pa Labelled) (sym n) (begins_label i)))
+        before n (inr i) = inr (inl (subst (pa Marked) (sym n) (begins_mark i)))
 
-        go : ((us ≡ []) × ((c || y) ≡ true)) ⊎ p Labelled us → ((us ≡ []) × (c ≡ true)) ⊎ (pa Labelled us ⊎ p Labelled us)
+        go : ((us ≡ []) × ((c || y) ≡ true)) ⊎ p Marked us → ((us ≡ []) × (c ≡ true)) ⊎ (pa Marked us ⊎ p Marked us)
         go (inl i) = before i.0 (or_cases c y i.1)
         go (inr i) = inr (inr i)
 
     right_fault : (p : Prefixes L) (c : Bool) (us : List L.Token) (q : Fault L.Rule) (rest : List L.Token) → FaultFact p (c || y) us q rest → FaultFact (λ m ts. pa m ts ⊎ p m ts) c us q rest
-    right_fault p c us (Unexpected d) rest h = right_label p c us d h
+    right_fault p c us (Unexpected d) rest h = right_mark p c us d h
     right_fault p c us (Broken r) rest h = (h.0, h.1, h.2, inr h.3)
 
     abbrev either : (Read L A) → Read L A
@@ -213,7 +213,7 @@ module _ (L : Alphabet) where
       h.0,
       h.1,
       inl h.2,
-      left_label pb c h.0 d h.3,
+      left_mark pb c h.0 d h.3,
       λ v al.
           let b : begins_with L s (h.0 ++ v) ≡ true = begins_kept s ts h.0 rest v h.1 m e in
           rw b (h.4 v al),
@@ -233,7 +233,7 @@ module _ (L : Alphabet) where
       h.0,
       h.1,
       inr h.2,
-      right_label pb c h.0 d h.3,
+      right_mark pb c h.0 d h.3,
       λ v al.
           let b : begins_with L s (h.0 ++ v) ≡ false = alike_not s ts (h.0 ++ v) (subst (λ z. alike z (h.0 ++ v)) (sym h.1) (alike_front h.0 rest v al)) e in
           rw b (h.4 v al),
@@ -264,7 +264,7 @@ module _ (L : Alphabet) where
 
   -- of repetitions
 
-  module _ {A : Type 0} (s : List ℕ) (y : Bool) (wa : Sentence L.Token A) (pa : Prefixes L) (ra : Read L A) (begins_label : y ≡ true → pa Labelled []) (taken : Moves L s ra) (each : Swaps wa pa ra) where
+  module _ {A : Type 0} (s : List L.Kind) (y : Bool) (wa : Sentence L.Token A) (pa : Prefixes L) (ra : Read L A) (begins_mark : y ≡ true → pa Marked []) (taken : Moves L s ra) (each : Swaps wa pa ra) where
     abbrev reads : ℕ → Read L (List A)
     reads n = read_many s y ra n
 
@@ -272,7 +272,7 @@ module _ (L : Alphabet) where
     with_first x o = then_do o (λ xs e vs. Got (x ∷ xs) e vs)
 
     abbrev ManySwapped : Bool → List L.Token → Out L (List A) → Type 0
-    ManySwapped c ts (Got xs e rest) = (us : List L.Token) × (ts ≡ us ++ rest) × many wa us xs × LabelFact (many_front wa pa) c us e × ((v : List L.Token) → alike rest v → (m : ℕ) → length (us ++ v) ≤ m → reads m c (us ++ v) ≡ Got xs e v)
+    ManySwapped c ts (Got xs e rest) = (us : List L.Token) × (ts ≡ us ++ rest) × many wa us xs × MarkFact (many_front wa pa) c us e × ((v : List L.Token) → alike rest v → (m : ℕ) → length (us ++ v) ≤ m → reads m c (us ++ v) ≡ Got xs e v)
     ManySwapped c ts (Stop q rest) = (us : List L.Token) × (ts ≡ us ++ rest) × many_front wa pa Fine us × FaultFact (many_front wa pa) c us q rest × ((v : List L.Token) → alike_for q rest v → (m : ℕ) → length (us ++ v) ≤ m → reads m c (us ++ v) ≡ Stop q v)
 
     many_none : (m : ℕ) (c : Bool) (v : List L.Token) → begins_with L s v ≡ false → reads m c v ≡ Got [] (c || y) v
@@ -286,7 +286,7 @@ module _ (L : Alphabet) where
     many_stop m c ts q v e f = rw (e, f) refl
 
     none_swapped : (c : Bool) (ts : List L.Token) → begins_with L s ts ≡ false → ManySwapped c ts (Got [] (c || y) ts)
-    none_swapped c ts e = ([], refl, refl, or_label (many_front wa pa) c y [] refl (λ h. ([], [], [], refl, refl, begins_label h)), λ v al m le. many_none m c v (alike_not s ts v al e))
+    none_swapped c ts e = ([], refl, refl, or_mark (many_front wa pa) c y [] refl (λ h. ([], [], [], refl, refl, begins_mark h)), λ v al m le. many_none m c v (alike_not s ts v al e))
 
     in_front : (k : Ending L) (us : List L.Token) → pa k us → many_front wa pa k us
     in_front k us h = ([], [], us, refl, refl, h)
@@ -294,30 +294,30 @@ module _ (L : Alphabet) where
     more_front : (k : Ending L) (x : A) (us vs : List L.Token) → wa us x → many_front wa pa k vs → many_front wa pa k (us ++ vs)
     more_front k x us vs w h = (x ∷ h.0, us ++ h.1, h.2, ap (λ z. us ++ z) h.3 ∙ sym (append_assoc us h.1 h.2), (us, h.1, refl, w, h.4), h.5)
 
-    many_first_label : (c : Bool) (us : List L.Token) (d : Bool) → LabelFact pa c us d → LabelFact (many_front wa pa) c us d
-    many_first_label c us d h e = go (h e)
+    many_first_mark : (c : Bool) (us : List L.Token) (d : Bool) → MarkFact pa c us d → MarkFact (many_front wa pa) c us d
+    many_first_mark c us d h e = go (h e)
       where
-        go : ((us ≡ []) × (c ≡ true)) ⊎ pa Labelled us → ((us ≡ []) × (c ≡ true)) ⊎ many_front wa pa Labelled us
+        go : ((us ≡ []) × (c ≡ true)) ⊎ pa Marked us → ((us ≡ []) × (c ≡ true)) ⊎ many_front wa pa Marked us
         go (inl i) = inl i
-        go (inr i) = inr (in_front Labelled us i)
+        go (inr i) = inr (in_front Marked us i)
 
     many_first_fault : (c : Bool) (us : List L.Token) (q : Fault L.Rule) (rest : List L.Token) → FaultFact pa c us q rest → FaultFact (many_front wa pa) c us q rest
-    many_first_fault c us (Unexpected d) rest h = many_first_label c us d h
+    many_first_fault c us (Unexpected d) rest h = many_first_mark c us d h
     many_first_fault c us (Broken r) rest h = (h.0, h.1, h.2, in_front (Breaks r) (us ++ h.0 ∷ []) h.3)
 
-    many_more_label : (x : A) (c : Bool) (us : List L.Token) (d : Bool) (vs : List L.Token) (e : Bool) → wa us x → LabelFact pa c us d → LabelFact (many_front wa pa) d vs e → LabelFact (many_front wa pa) c (us ++ vs) e
-    many_more_label x c us d vs e w f g h = go (g h)
+    many_more_mark : (x : A) (c : Bool) (us : List L.Token) (d : Bool) (vs : List L.Token) (e : Bool) → wa us x → MarkFact pa c us d → MarkFact (many_front wa pa) d vs e → MarkFact (many_front wa pa) c (us ++ vs) e
+    many_more_mark x c us d vs e w f g h = go (g h)
       where
-        first : vs ≡ [] → ((us ≡ []) × (c ≡ true)) ⊎ pa Labelled us → ((us ++ vs ≡ []) × (c ≡ true)) ⊎ many_front wa pa Labelled (us ++ vs)
+        first : vs ≡ [] → ((us ≡ []) × (c ≡ true)) ⊎ pa Marked us → ((us ++ vs ≡ []) × (c ≡ true)) ⊎ many_front wa pa Marked (us ++ vs)
         first n (inl i) = inl (ends_none us vs n ∙ i.0, i.1)
-        first n (inr i) = inr (in_front Labelled (us ++ vs) (subst (pa Labelled) (sym (ends_none us vs n)) i))
+        first n (inr i) = inr (in_front Marked (us ++ vs) (subst (pa Marked) (sym (ends_none us vs n)) i))
 
-        go : ((vs ≡ []) × (d ≡ true)) ⊎ many_front wa pa Labelled vs → ((us ++ vs ≡ []) × (c ≡ true)) ⊎ many_front wa pa Labelled (us ++ vs)
+        go : ((vs ≡ []) × (d ≡ true)) ⊎ many_front wa pa Marked vs → ((us ++ vs ≡ []) × (c ≡ true)) ⊎ many_front wa pa Marked (us ++ vs)
         go (inl i) = first i.0 (f i.1)
-        go (inr i) = inr (more_front Labelled x us vs w i)
+        go (inr i) = inr (more_front Marked x us vs w i)
 
-    many_more_fault : (x : A) (c : Bool) (us : List L.Token) (d : Bool) (vs : List L.Token) (q : Fault L.Rule) (rest : List L.Token) → wa us x → LabelFact pa c us d → FaultFact (many_front wa pa) d vs q rest → FaultFact (many_front wa pa) c (us ++ vs) q rest
-    many_more_fault x c us d vs (Unexpected e) rest w f h = many_more_label x c us d vs e w f h
+    many_more_fault : (x : A) (c : Bool) (us : List L.Token) (d : Bool) (vs : List L.Token) (q : Fault L.Rule) (rest : List L.Token) → wa us x → MarkFact pa c us d → FaultFact (many_front wa pa) d vs q rest → FaultFact (many_front wa pa) c (us ++ vs) q rest
+    many_more_fault x c us d vs (Unexpected e) rest w f h = many_more_mark x c us d vs e w f h
     many_more_fault x c us d vs (Broken r) rest w f h = (h.0, h.1, h.2, subst (many_front wa pa (Breaks r)) (sym (append_assoc us vs (h.0 ∷ []))) (more_front (Breaks r) x us (vs ++ h.0 ∷ []) w h.3))
 
     longer : (ts us mid : List L.Token) → ts ≡ us ++ mid → length mid < length ts → 0 < length us
@@ -333,7 +333,7 @@ module _ (L : Alphabet) where
       h.0 ++ g.0,
       h.1 ∙ ap (λ z. h.0 ++ z) g.1 ∙ sym (append_assoc h.0 g.0 rest),
       (h.0, g.0, refl, h.2, g.2),
-      many_more_label x c h.0 d g.0 e h.2 h.3 g.3,
+      many_more_mark x c h.0 d g.0 e h.2 h.3 g.3,
       λ v al. turn c h.0 x d g.0 v (Got xs e v) (longer ts h.0 mid h.1 n) (begins_kept s ts h.0 mid (g.0 ++ v) h.1 n b)
           (h.4 (g.0 ++ v) (subst (λ m. alike m (g.0 ++ v)) (sym g.1) (alike_front g.0 rest v al))) (g.4 v al),
     )
@@ -376,12 +376,12 @@ module _ (L : Alphabet) where
 
   -- of parts that are asked for by the tree so far
 
-  module _ {A : Type 0} (s : A → List ℕ) (y : A → Bool) (wa : A → Sentence L.Token A) (pa : A → Prefixes L) (ra : A → Read L A) (begins_label : (z : A) → y z ≡ true → pa z Labelled []) (taken : (z : A) → Moves L (s z) (ra z)) (each : (z : A) → Swaps (wa z) (pa z) (ra z)) where
+  module _ {A : Type 0} (s : A → List L.Kind) (y : A → Bool) (wa : A → Sentence L.Token A) (pa : A → Prefixes L) (ra : A → Read L A) (begins_mark : (z : A) → y z ≡ true → pa z Marked []) (taken : (z : A) → Moves L (s z) (ra z)) (each : (z : A) → Swaps (wa z) (pa z) (ra z)) where
     abbrev grows : ℕ → A → Read L A
     grows n z = read_growth s y ra n z
 
     abbrev GrowthSwapped : A → Bool → List L.Token → Out L A → Type 0
-    GrowthSwapped z c ts (Got x e rest) = (us : List L.Token) × (ts ≡ us ++ rest) × growth wa z us x × LabelFact (growth_front wa pa z) c us e × ((v : List L.Token) → alike rest v → (m : ℕ) → length (us ++ v) ≤ m → grows m z c (us ++ v) ≡ Got x e v)
+    GrowthSwapped z c ts (Got x e rest) = (us : List L.Token) × (ts ≡ us ++ rest) × growth wa z us x × MarkFact (growth_front wa pa z) c us e × ((v : List L.Token) → alike rest v → (m : ℕ) → length (us ++ v) ≤ m → grows m z c (us ++ v) ≡ Got x e v)
     GrowthSwapped z c ts (Stop q rest) = (us : List L.Token) × (ts ≡ us ++ rest) × growth_front wa pa z Fine us × FaultFact (growth_front wa pa z) c us q rest × ((v : List L.Token) → alike_for q rest v → (m : ℕ) → length (us ++ v) ≤ m → grows m z c (us ++ v) ≡ Stop q v)
 
     growth_none : (m : ℕ) (z : A) (c : Bool) (v : List L.Token) → begins_with L (s z) v ≡ false → grows m z c v ≡ Got z (c || y z) v
@@ -395,7 +395,7 @@ module _ (L : Alphabet) where
     growth_stop m z c ts q v e f = rw (e, f) refl
 
     none_grown : (z : A) (c : Bool) (ts : List L.Token) → begins_with L (s z) ts ≡ false → GrowthSwapped z c ts (Got z (c || y z) ts)
-    none_grown z c ts e = ([], refl, ([], refl, refl), or_label (growth_front wa pa z) c (y z) [] refl (λ h. ([], [], [], refl, refl, begins_label z h)), λ v al m le. growth_none m z c v (alike_not (s z) ts v al e))
+    none_grown z c ts e = ([], refl, ([], refl, refl), or_mark (growth_front wa pa z) c (y z) [] refl (λ h. ([], [], [], refl, refl, begins_mark z h)), λ v al m le. growth_none m z c v (alike_not (s z) ts v al e))
 
     first_grown : (k : Ending L) (z : A) (us : List L.Token) → pa z k us → growth_front wa pa z k us
     first_grown k z us h = ([], [], us, refl, refl, h)
@@ -403,30 +403,30 @@ module _ (L : Alphabet) where
     next_grown : (k : Ending L) (z x : A) (us vs : List L.Token) → wa z us x → growth_front wa pa x k vs → growth_front wa pa z k (us ++ vs)
     next_grown k z x us vs w h = (x ∷ h.0, us ++ h.1, h.2, ap (λ q. us ++ q) h.3 ∙ sym (append_assoc us h.1 h.2), (us, h.1, refl, w, h.4), h.5)
 
-    growth_first_label : (z : A) (c : Bool) (us : List L.Token) (d : Bool) → LabelFact (pa z) c us d → LabelFact (growth_front wa pa z) c us d
-    growth_first_label z c us d h e = go (h e)
+    growth_first_mark : (z : A) (c : Bool) (us : List L.Token) (d : Bool) → MarkFact (pa z) c us d → MarkFact (growth_front wa pa z) c us d
+    growth_first_mark z c us d h e = go (h e)
       where
-        go : ((us ≡ []) × (c ≡ true)) ⊎ pa z Labelled us → ((us ≡ []) × (c ≡ true)) ⊎ growth_front wa pa z Labelled us
+        go : ((us ≡ []) × (c ≡ true)) ⊎ pa z Marked us → ((us ≡ []) × (c ≡ true)) ⊎ growth_front wa pa z Marked us
         go (inl i) = inl i
-        go (inr i) = inr (first_grown Labelled z us i)
+        go (inr i) = inr (first_grown Marked z us i)
 
     growth_first_fault : (z : A) (c : Bool) (us : List L.Token) (q : Fault L.Rule) (rest : List L.Token) → FaultFact (pa z) c us q rest → FaultFact (growth_front wa pa z) c us q rest
-    growth_first_fault z c us (Unexpected d) rest h = growth_first_label z c us d h
+    growth_first_fault z c us (Unexpected d) rest h = growth_first_mark z c us d h
     growth_first_fault z c us (Broken r) rest h = (h.0, h.1, h.2, first_grown (Breaks r) z (us ++ h.0 ∷ []) h.3)
 
-    growth_more_label : (z x : A) (c : Bool) (us : List L.Token) (d : Bool) (vs : List L.Token) (e : Bool) → wa z us x → LabelFact (pa z) c us d → LabelFact (growth_front wa pa x) d vs e → LabelFact (growth_front wa pa z) c (us ++ vs) e
-    growth_more_label z x c us d vs e w f g h = go (g h)
+    growth_more_mark : (z x : A) (c : Bool) (us : List L.Token) (d : Bool) (vs : List L.Token) (e : Bool) → wa z us x → MarkFact (pa z) c us d → MarkFact (growth_front wa pa x) d vs e → MarkFact (growth_front wa pa z) c (us ++ vs) e
+    growth_more_mark z x c us d vs e w f g h = go (g h)
       where
-        first : vs ≡ [] → ((us ≡ []) × (c ≡ true)) ⊎ pa z Labelled us → ((us ++ vs ≡ []) × (c ≡ true)) ⊎ growth_front wa pa z Labelled (us ++ vs)
+        first : vs ≡ [] → ((us ≡ []) × (c ≡ true)) ⊎ pa z Marked us → ((us ++ vs ≡ []) × (c ≡ true)) ⊎ growth_front wa pa z Marked (us ++ vs)
         first n (inl i) = inl (ends_none us vs n ∙ i.0, i.1)
-        first n (inr i) = inr (first_grown Labelled z (us ++ vs) (subst (pa z Labelled) (sym (ends_none us vs n)) i))
+        first n (inr i) = inr (first_grown Marked z (us ++ vs) (subst (pa z Marked) (sym (ends_none us vs n)) i))
 
-        go : ((vs ≡ []) × (d ≡ true)) ⊎ growth_front wa pa x Labelled vs → ((us ++ vs ≡ []) × (c ≡ true)) ⊎ growth_front wa pa z Labelled (us ++ vs)
+        go : ((vs ≡ []) × (d ≡ true)) ⊎ growth_front wa pa x Marked vs → ((us ++ vs ≡ []) × (c ≡ true)) ⊎ growth_front wa pa z Marked (us ++ vs)
         go (inl i) = first i.0 (f i.1)
-        go (inr i) = inr (next_grown Labelled z x us vs w i)
+        go (inr i) = inr (next_grown Marked z x us vs w i)
 
-    growth_more_fault : (z x : A) (c : Bool) (us : List L.Token) (d : Bool) (vs : List L.Token) (q : Fault L.Rule) (rest : List L.Token) → wa z us x → LabelFact (pa z) c us d → FaultFact (growth_front wa pa x) d vs q rest → FaultFact (growth_front wa pa z) c (us ++ vs) q rest
-    growth_more_fault z x c us d vs (Unexpected e) rest w f h = growth_more_label z x c us d vs e w f h
+    growth_more_fault : (z x : A) (c : Bool) (us : List L.Token) (d : Bool) (vs : List L.Token) (q : Fault L.Rule) (rest : List L.Token) → wa z us x → MarkFact (pa z) c us d → FaultFact (growth_front wa pa x) d vs q rest → FaultFact (growth_front wa pa z) c (us ++ vs) q rest
+    growth_more_fault z x c us d vs (Unexpected e) rest w f h = growth_more_mark z x c us d vs e w f h
     growth_more_fault z x c us d vs (Broken r) rest w f h = (h.0, h.1, h.2, subst (growth_front wa pa z (Breaks r)) (sym (append_assoc us vs (h.0 ∷ []))) (next_grown (Breaks r) z x us (vs ++ h.0 ∷ []) w h.3))
 
     growth_longer : (ts us mid : List L.Token) → ts ≡ us ++ mid → length mid < length ts → 0 < length us
@@ -442,7 +442,7 @@ module _ (L : Alphabet) where
       h.0 ++ g.0,
       h.1 ∙ ap (λ w. h.0 ++ w) g.1 ∙ sym (append_assoc h.0 g.0 rest),
       (x ∷ g.2.0, g.2.1, (h.0, g.0, refl, h.2, g.2.2)),
-      growth_more_label z x c h.0 d g.0 e h.2 h.3 g.3,
+      growth_more_mark z x c h.0 d g.0 e h.2 h.3 g.3,
       λ v al. growth_turn z c h.0 x d g.0 v (Got q e v) (growth_longer ts h.0 mid h.1 n) (begins_kept (s z) ts h.0 mid (g.0 ++ v) h.1 n b)
           (h.4 (g.0 ++ v) (subst (λ m. alike m (g.0 ++ v)) (sym g.1) (alike_front g.0 rest v al))) (g.4 v al),
     )
@@ -499,43 +499,43 @@ module _ (L : Alphabet) where
   nullable_derives (as_tree f a) e = let i = nullable_derives a e in (f i.0, (i.0, i.1, refl))
   nullable_derives (dep a s f) e = absurd (cc)
   nullable_derives (grow x s f) e = (x, ([], refl, refl))
-  nullable_derives (labelled a) e = nullable_derives a e
+  nullable_derives (marked a) e = nullable_derives a e
 
-  labels_front : {A : Type 0} (g : Grammar L A) → labels g ≡ true → Front g Labelled []
-  labels_front (nothing x) e = absurd (cc)
-  labels_front (tok s p) e = absurd (cc)
-  labels_front (seq a b) e = go (or_cases (labels a) (nullable a && labels b) e) (λ h. labels_front a h) (λ h. labels_front b h)
+  marks_front : {A : Type 0} (g : Grammar L A) → marks g ≡ true → Front g Marked []
+  marks_front (nothing x) e = absurd (cc)
+  marks_front (tok s p) e = absurd (cc)
+  marks_front (seq a b) e = go (or_cases (marks a) (nullable a && marks b) e) (λ h. marks_front a h) (λ h. marks_front b h)
     where
-      go : (labels a ≡ true) ⊎ ((nullable a && labels b) ≡ true) → (labels a ≡ true → Front a Labelled []) → (labels b ≡ true → Front b Labelled []) → Front (seq a b) Labelled []
+      go : (marks a ≡ true) ⊎ ((nullable a && marks b) ≡ true) → (marks a ≡ true → Front a Marked []) → (marks b ≡ true → Front b Marked []) → Front (seq a b) Marked []
       go (inl h) f g = inl (f h)
-      go (inr h) f g = let i = and_cases (nullable a) (labels b) h in let j = nullable_derives a i.0 in inr (j.0, [], [], refl, j.1, g i.1)
-  labels_front (alt a b) e = go (or_cases (labels a) (labels b) e) (λ h. labels_front a h) (λ h. labels_front b h)
+      go (inr h) f g = let i = and_cases (nullable a) (marks b) h in let j = nullable_derives a i.0 in inr (j.0, [], [], refl, j.1, g i.1)
+  marks_front (alt a b) e = go (or_cases (marks a) (marks b) e) (λ h. marks_front a h) (λ h. marks_front b h)
     where
-      go : (labels a ≡ true) ⊎ (labels b ≡ true) → (labels a ≡ true → Front a Labelled []) → (labels b ≡ true → Front b Labelled []) → Front (alt a b) Labelled []
+      go : (marks a ≡ true) ⊎ (marks b ≡ true) → (marks a ≡ true → Front a Marked []) → (marks b ≡ true → Front b Marked []) → Front (alt a b) Marked []
       go (inl h) f g = inl (f h)
       go (inr h) f g = inr (g h)
-  labels_front (opt a) e = labels_front a e
-  labels_front (rep a) e = ([], [], [], refl, refl, labels_front a e)
-  labels_front (as_tree f a) e = labels_front a e
-  labels_front (dep a s f) e = inl (labels_front a e)
-  labels_front (grow x s f) e = ([], [], [], refl, refl, labels_front (f x) e)
-  labels_front (labelled a) e = inl refl
+  marks_front (opt a) e = marks_front a e
+  marks_front (rep a) e = ([], [], [], refl, refl, marks_front a e)
+  marks_front (as_tree f a) e = marks_front a e
+  marks_front (dep a s f) e = inl (marks_front a e)
+  marks_front (grow x s f) e = ([], [], [], refl, refl, marks_front (f x) e)
+  marks_front (marked a) e = inl refl
 
-  here_swaps : {A : Type 0} (wa : Sentence L.Token A) (pa : Prefixes L) (ra : Read L A) → Swaps wa pa ra → Swaps wa (λ m ts. label_front m ts ⊎ pa m ts) (λ c ts. ra true ts)
+  here_swaps : {A : Type 0} (wa : Sentence L.Token A) (pa : Prefixes L) (ra : Read L A) → Swaps wa pa ra → Swaps wa (λ m ts. mark_front m ts ⊎ pa m ts) (λ c ts. ra true ts)
   here_swaps {A} wa pa ra h c ts = go (ra true ts) (h true ts)
     where
-      here : (us : List L.Token) (d : Bool) → LabelFact pa true us d → LabelFact (λ m ts. label_front m ts ⊎ pa m ts) c us d
+      here : (us : List L.Token) (d : Bool) → MarkFact pa true us d → MarkFact (λ m ts. mark_front m ts ⊎ pa m ts) c us d
       here us d f e = pick (f e)
         where
-          pick : ((us ≡ []) × (true ≡ true)) ⊎ pa Labelled us → ((us ≡ []) × (c ≡ true)) ⊎ ((us ≡ []) ⊎ pa Labelled us)
+          pick : ((us ≡ []) × (true ≡ true)) ⊎ pa Marked us → ((us ≡ []) × (c ≡ true)) ⊎ ((us ≡ []) ⊎ pa Marked us)
           pick (inl i) = inr (inl i.0)
           pick (inr i) = inr (inr i)
 
-      here_fault : (us : List L.Token) (q : Fault L.Rule) (rest : List L.Token) → FaultFact pa true us q rest → FaultFact (λ m ts. label_front m ts ⊎ pa m ts) c us q rest
+      here_fault : (us : List L.Token) (q : Fault L.Rule) (rest : List L.Token) → FaultFact pa true us q rest → FaultFact (λ m ts. mark_front m ts ⊎ pa m ts) c us q rest
       here_fault us (Unexpected d) rest f = here us d f
       here_fault us (Broken r) rest f = (f.0, f.1, f.2, inr f.3)
 
-      go : (o : Out L A) → Swapped wa pa ra true ts o → Swapped wa (λ m ts. label_front m ts ⊎ pa m ts) (λ c ts. ra true ts) c ts o
+      go : (o : Out L A) → Swapped wa pa ra true ts o → Swapped wa (λ m ts. mark_front m ts ⊎ pa m ts) (λ c ts. ra true ts) c ts o
       go (Got x d rest) g = (g.0, g.1, g.2, here g.0 d g.3, g.4)
       go (Stop q rest) g = (g.0, g.1, inr g.2, here_fault g.0 q rest g.3, g.4)
 
@@ -543,10 +543,10 @@ module _ (L : Alphabet) where
   swaps (nothing x) p = λ c ts. ([], refl, (refl, refl), (λ e. inl (refl, e)), λ v al. refl)
   swaps (tok s q) p = one_swaps s q
   swaps (seq a b) p = both_swaps (Derives a) (Front a) (read a) (λ _. Derives b) (λ _. Front b) (λ _. read b) (swaps a p.0) (λ _. swaps b p.1)
-  swaps (alt a b) p = either_swaps (firsts a) (labels a) (Derives a) (Front a) (read a) (labels_front a) (Derives b) (Front b) (read b) (moves L a p.0) (swaps a p.0) (swaps b p.1)
-  swaps (opt a) p = maybe_swaps (firsts a) (labels a) (Derives a) (Front a) (read a) (labels_front a) (moves L a p.0) (swaps a p.0)
-  swaps (rep a) p = many_swaps (firsts a) (labels a) (Derives a) (Front a) (read a) (labels_front a) (moves L a p.0) (swaps a p.0)
+  swaps (alt a b) p = either_swaps (firsts a) (marks a) (Derives a) (Front a) (read a) (marks_front a) (Derives b) (Front b) (read b) (moves L a p.0) (swaps a p.0) (swaps b p.1)
+  swaps (opt a) p = maybe_swaps (firsts a) (marks a) (Derives a) (Front a) (read a) (marks_front a) (moves L a p.0) (swaps a p.0)
+  swaps (rep a) p = many_swaps (firsts a) (marks a) (Derives a) (Front a) (read a) (marks_front a) (moves L a p.0) (swaps a p.0)
   swaps (as_tree f a) p = tree_swaps (Derives a) (Front a) (read a) f (swaps a p)
   swaps (dep a s f) p = both_swaps (Derives a) (Front a) (read a) (λ x. Derives (f x)) (λ x. Front (f x)) (λ x. read (f x)) (swaps a p.0) (λ x. swaps (f x) (p.2 x).0)
-  swaps (grow x s f) p = growth_swaps (λ z. firsts (f z)) (λ z. labels (f z)) (λ z. Derives (f z)) (λ z. Front (f z)) (λ z. read (f z)) (λ z. labels_front (f z)) (λ z. moves L (f z) (p z).0) (λ z. swaps (f z) (p z).0) x
-  swaps (labelled a) p = here_swaps (Derives a) (Front a) (read a) (swaps a p)
+  swaps (grow x s f) p = growth_swaps (λ z. firsts (f z)) (λ z. marks (f z)) (λ z. Derives (f z)) (λ z. Front (f z)) (λ z. read (f z)) (λ z. marks_front (f z)) (λ z. moves L (f z) (p z).0) (λ z. swaps (f z) (p z).0) x
+  swaps (marked a) p = here_swaps (Derives a) (Front a) (read a) (swaps a p)

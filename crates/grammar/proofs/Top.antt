@@ -7,7 +7,7 @@ use Rattle.grammar.specs.declared.fault.Fault.TheVariants.{Unexpected}
 use Rattle.grammar.specs.Grammar.{Alphabet, Grammar}
 use Rattle.grammar.specs.LookAhead.{LL1}
 use Rattle.grammar.specs.Language.{Holds}
-use Rattle.grammar.specs.Reading.{Got, Stop, read, answered}
+use Rattle.grammar.specs.code.Reading.{Got, Stop, read, answered}
 use Rattle.grammar.proofs.Going.{Shrunk, shrinks}
 use Rattle.grammar.proofs.Answer.{answer_holds}
 

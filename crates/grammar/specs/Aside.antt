@@ -2,8 +2,8 @@
 use Rattle.std.specs.Prelude.{◌≡◌, ◌↔◌, ℕ, true, List, [], ◌∷◌, ◌++◌, length}
 use Rattle.grammar.specs.declared.fault.Fault.{Fault}
 use Rattle.grammar.specs.declared.fault.Fault.TheVariants.{Unexpected, Broken}
-use Rattle.grammar.specs.Grammar.{Alphabet, Grammar, nothing, tok, seq, alt, opt, rep, as_tree, dep, grow, labelled, any}
-use Rattle.grammar.specs.Language.{Derives, Fine, Labelled, Breaks, Front, Misread}
+use Rattle.grammar.specs.Grammar.{Alphabet, Grammar, nothing, tok, seq, alt, opt, rep, as_tree, dep, grow, marked, any}
+use Rattle.grammar.specs.Language.{Derives, Fine, Marked, Breaks, Front, Misread}
 
 -- the grammar without its side rules
 abbrev pub bare : {L : Alphabet} {A : Type 0} → Grammar L A → Grammar L A
@@ -16,7 +16,7 @@ bare (rep a) = rep (bare a)
 bare (as_tree f a) = as_tree f (bare a)
 bare (dep a s f) = dep (bare a) s (λ x. bare (f x))
 bare (grow x s f) = grow x s (λ y. bare (f y))
-bare (labelled a) = labelled (bare a)
+bare (marked a) = marked (bare a)
 
 -- no token of us breaks a side rule
 abbrev pub KeepsRules : {L : Alphabet} {A : Type 0} → Grammar L A → List L.Token → Type 0
@@ -31,7 +31,7 @@ IsBrokenAside g us [] r = ⊥
 IsBrokenAside g us (t ∷ v) r = Front g (Breaks r) (us ++ t ∷ [])
 
 abbrev pub IsFaultAside : {L : Alphabet} {A : Type 0} → Grammar L A → List L.Token → List L.Token → Fault L.Rule → Type 0
-IsFaultAside g us rest (Unexpected d) = IsUnexpectedAside g us rest × (d ≡ true → Front (bare g) Labelled us) × (Front (bare g) Labelled us → d ≡ true)
+IsFaultAside g us rest (Unexpected d) = IsUnexpectedAside g us rest × (d ≡ true → Front (bare g) Marked us) × (Front (bare g) Marked us → d ≡ true)
 IsFaultAside g us rest (Broken r) = IsBrokenAside g us rest r
 
 -- The first fault in text order: a token that breaks a side rule, or one with which the tokens are no viable prefix of

@@ -2,7 +2,7 @@
 use Rattle.std.specs.Prelude.{◌≡◌, ℕ, true, Option, Some, None, Result, Ok, Err, List, [], ◌∷◌, ◌++◌, length, ◌⊎◌}
 use Rattle.grammar.specs.declared.fault.Fault.{Fault}
 use Rattle.grammar.specs.declared.fault.Fault.TheVariants.{Unexpected, Broken}
-use Rattle.grammar.specs.Grammar.{Alphabet, Grammar, nothing, tok, seq, alt, opt, rep, as_tree, dep, grow, labelled, is_in}
+use Rattle.grammar.specs.Grammar.{Alphabet, Grammar, nothing, tok, seq, alt, opt, rep, as_tree, dep, grow, marked, is_in}
 
 -- Derivations.
 
@@ -46,22 +46,22 @@ Derives (rep a) = many (Derives a)
 Derives (as_tree f a) = λ ts y. (x : _) × Derives a ts x × (y ≡ f x)
 Derives (dep a s f) = both (Derives a) (λ x. Derives (f x))
 Derives (grow x s f) = growth (λ y. Derives (f y)) x
-Derives (labelled a) = Derives a
+Derives (marked a) = Derives a
 
 -- Viable prefixes, by cases on the productions, with what is known at their end. (Where each part has a sentence they are
 -- the beginnings of sentences.)
--- Fine: the tokens are a viable prefix. Labelled: and a labelled part may begin after them.
+-- Fine: the tokens are a viable prefix. Marked: and a marked part may begin after them.
 -- Breaks: all but the last are a viable prefix, and the last may follow by its kind, but breaks a side rule.
 pub data Ending (L : Alphabet) : Type 0 where
   Fine : Ending L
-  Labelled : Ending L
+  Marked : Ending L
   Breaks : L.Rule → Ending L
 
 abbrev pub Prefixes : Alphabet → Type 1
 Prefixes L = Ending L → List L.Token → Type 0
 
 -- of one token: that token or nothing
-abbrev pub one : (L : Alphabet) → List ℕ → (L.Token → Option L.Rule) → Prefixes L
+abbrev pub one : (L : Alphabet) → List L.Kind → (L.Token → Option L.Rule) → Prefixes L
 one L s p Fine [] = Unit
 one L s p Fine (t ∷ []) = (is_in L t s ≡ true) × (p t ≡ None)
 one L s p (Breaks r) (t ∷ []) = (is_in L t s ≡ true) × (p t ≡ Some r)
@@ -71,9 +71,9 @@ abbrev pub empty_front : {L : Alphabet} → Prefixes L
 empty_front Fine ts = ts ≡ []
 empty_front m ts = ⊥
 
-abbrev pub label_front : {L : Alphabet} → Prefixes L
-label_front Labelled ts = ts ≡ []
-label_front m ts = ⊥
+abbrev pub mark_front : {L : Alphabet} → Prefixes L
+mark_front Marked ts = ts ≡ []
+mark_front m ts = ⊥
 
 -- of two parts: one of the first, or a sentence of the first and then one of the second
 abbrev pub both_front : {L : Alphabet} {A : Type 0} → Sentence L.Token A → Prefixes L → (A → Prefixes L) → Prefixes L
@@ -97,7 +97,7 @@ Front (rep a) = many_front (Derives a) (Front a)
 Front (as_tree f a) = Front a
 Front (dep a s f) = both_front (Derives a) (Front a) (λ x. Front (f x))
 Front (grow x s f) = growth_front (λ y. Derives (f y)) (λ y. Front (f y)) x
-Front (labelled a) = λ m ts. label_front m ts ⊎ Front a m ts
+Front (marked a) = λ m ts. mark_front m ts ⊎ Front a m ts
 
 -- The first fault.
 -- Side rules stand in viable prefixes here: a token that breaks one ends them. To leave them aside there gives the same
@@ -114,7 +114,7 @@ IsBroken g us [] r = ⊥
 IsBroken g us (t ∷ v) r = Front g (Breaks r) (us ++ t ∷ []) × (Front g Fine (us ++ t ∷ []) → ⊥)
 
 abbrev pub IsFault : {L : Alphabet} {A : Type 0} → Grammar L A → List L.Token → List L.Token → Fault L.Rule → Type 0
-IsFault g us rest (Unexpected d) = IsUnexpected g us rest × (d ≡ true → Front g Labelled us) × (Front g Labelled us → d ≡ true)
+IsFault g us rest (Unexpected d) = IsUnexpected g us rest × (d ≡ true → Front g Marked us) × (Front g Marked us → d ≡ true)
 IsFault g us rest (Broken r) = IsBroken g us rest r
 
 -- The first fault of ts: f, at the token (or the end) that k tokens stand before.

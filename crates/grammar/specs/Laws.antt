@@ -2,7 +2,7 @@
 use Rattle.std.specs.Prelude.{◌≡◌, ◌↔◌, List, ◌++◌}
 use Rattle.grammar.specs.Grammar.{Alphabet, Grammar}
 use Rattle.grammar.specs.Language.{Derives, Fine, Front, Answer, Holds}
-use Rattle.grammar.specs.Reading.{answer}
+use Rattle.grammar.specs.code.Reading.{answer}
 
 -- A token list has exactly one tree or exactly one first fault.
 abbrev pub HoldsOnce : {L : Alphabet} {A : Type 0} → Grammar L A → Type 0

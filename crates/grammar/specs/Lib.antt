@@ -1,8 +1,8 @@
 pub mod Grammar
 pub mod Language
+pub mod Answers
 pub mod LookAhead
-pub mod Reading
 pub mod Laws
-pub mod Clauses
 pub mod Aside
 pub mod Union
+pub mod code

@@ -6,7 +6,7 @@ use Rattle.grammar.specs.declared.fault.Fault.{Fault}
 use Rattle.grammar.specs.declared.fault.Fault.TheVariants.{Unexpected, Broken}
 use Rattle.grammar.specs.Grammar.{Alphabet, Grammar, alt}
 use Rattle.grammar.specs.Language.{Derives, Fine, Breaks, Front, IsFault, Answer}
-use Rattle.grammar.specs.Reading.{answer}
+use Rattle.grammar.specs.code.Reading.{answer}
 
 -- the tree of the first grammar, or where it has none that of the second
 abbrev pub EitherDerives : {L : Alphabet} {A : Type 0} → Grammar L A → Grammar L A → List L.Token → A → Type 0

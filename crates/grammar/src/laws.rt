@@ -8,19 +8,23 @@ ghost use Rattle.grammar.specs.Union.{JoinHolds};
 
 /// A language with a grammar in which one token of look-ahead decides.
 ///
-/// An impl gives: `kind`, the number of a token's kind; `Tree`, what a sentence stands for; `grammar`; and `decided`, that
-/// one token of look-ahead decides in it.
+/// An impl gives `kind` and `code`, which make the alphabet; `Tree`, what a sentence stands for; `grammar`; and `decided`,
+/// that one token of look-ahead decides in it.
 pub trait Language {
-    /// The tokens.
+    /// The tokens of the grammar.
     type Token;
+    /// The kinds of tokens.
+    type Kind;
     /// What is said of a token that breaks a side rule.
     type Rule;
 
-    ghost kind: { Self.Token → ℕ };
+    ghost kind: { Self.Token → Self.Kind };
+
+    ghost code: { Self.Kind → ℕ };
 
     ghost Tree: { Type 0 };
 
-    ghost grammar: { Grammar (alphabet Self.Token Self.Rule kind) Tree };
+    ghost grammar: { Grammar (alphabet Self.Rule kind code) Tree };
 
     ghost decided: { LL1 grammar };
 }
@@ -52,18 +56,22 @@ pub fn same_fault<G: Language>()
 
 /// A language with two grammars, in each of which one token of look-ahead decides: the members are those of `Language`.
 pub trait TwoGrammars {
-    /// The tokens.
+    /// The tokens of the grammar.
     type Token;
+    /// The kinds of tokens.
+    type Kind;
     /// What is said of a token that breaks a side rule.
     type Rule;
 
-    ghost kind: { Self.Token → ℕ };
+    ghost kind: { Self.Token → Self.Kind };
+
+    ghost code: { Self.Kind → ℕ };
 
     ghost Tree: { Type 0 };
 
-    ghost first: { Grammar (alphabet Self.Token Self.Rule kind) Tree };
+    ghost first: { Grammar (alphabet Self.Rule kind code) Tree };
 
-    ghost second: { Grammar (alphabet Self.Token Self.Rule kind) Tree };
+    ghost second: { Grammar (alphabet Self.Rule kind code) Tree };
 
     ghost decided: { LL1 first × LL1 second };
 }

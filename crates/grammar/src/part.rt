@@ -1,43 +1,48 @@
 //! Loops that read a part of a grammar any number of times.
-ghost use Rattle.std.specs.Prelude.{◌≡◌, ℕ, [], ◌∷◌, ◌++◌, map};
-ghost use Rattle.grammar.specs.Grammar.{Grammar, alphabet, as_tree, opt, rep, preceded, listed, begins_with};
-ghost use Rattle.grammar.specs.LookAhead.{LL1, firsts, labels};
-ghost use Rattle.grammar.specs.Clauses.{Gives};
+ghost use Rattle.std.specs.Prelude.{◌≡◌, ℕ, Bool, List, [], ◌∷◌, ◌++◌};
+ghost use Rattle.grammar.specs.Grammar.{Grammar, alphabet, as_tree, rep, preceded, listed, begins_with};
+ghost use Rattle.grammar.specs.LookAhead.{Starts};
+ghost use Rattle.grammar.specs.code.Gives.{Gives};
 
 use crate::cursor::{Cursor, Halt};
 use crate::fault::Fault;
+use ir_values::Seq;
 use std::alloc::Global;
 
 /// A part of a grammar that is read any number of times, and the function that reads it.
 ///
-/// An impl gives: `kind`, the number of a token's kind; `Tree`, what a sentence stands for; `grammar`, the part itself,
-/// which may go by the value; `view`, the tree of what was made; `decided`, that one token of look-ahead decides in it and
-/// that it is never empty, as it has to be where it is optional.
+/// An impl gives `kind` and `code`, which make the alphabet; `grammar`, the part itself, which may go by the value;
+/// `kinds`, by which it begins; `mark`, whether it may begin with a marked part; and `starts`, that all this is so and that
+/// one token of look-ahead decides in it.
 pub trait Part {
     /// The tokens of the grammar.
     type Token;
+    /// The kinds of tokens.
+    type Kind;
     /// What is said of a token that breaks a side rule.
     type Rule: Drop;
-    /// What is made of a sentence.
+    /// What is made of a sentence, which contracts see as its tree.
     type Item: Drop;
 
-    ghost kind: { Self.Token → ℕ };
+    ghost kind: { Self.Token → Self.Kind };
 
-    ghost Tree: { Type 0 };
+    ghost code: { Self.Kind → ℕ };
 
-    ghost grammar: { Self → Grammar (alphabet Self.Token Self.Rule kind) Tree };
+    ghost grammar: { Self → Grammar (alphabet Self.Rule kind code) Self.Item };
 
-    ghost view: { Self.Item → Tree };
+    ghost kinds: { Self → List Self.Kind };
 
-    ghost decided: { (part : Self) → LL1 (opt (grammar part)) };
+    ghost mark: { Bool };
+
+    ghost starts: { (part : Self) → Starts (grammar part) (kinds part) mark };
 
     /// Whether the part begins here.
     fn begins(&self, cursor: &Cursor<'_, Self::Token>) -> bool
-        ensures { result ≡ begins_with (alphabet Self.Token Self.Rule kind) (firsts (grammar self.now)) cursor.now.rest.now };
+        ensures { result ≡ begins_with (alphabet Self.Rule kind code) (kinds self.now) cursor.now.rest.now };
 
-    /// Whether the part may begin with a labelled one.
-    fn labelled(&self) -> bool
-        ensures { result ≡ labels (grammar self.now) };
+    /// Whether the part may begin with a marked one.
+    fn marked(&self) -> bool
+        ensures { result ≡ mark };
 
     /// Reads the part.
     fn read<'a>(
@@ -45,33 +50,28 @@ pub trait Part {
         alloc: Global,
         cursor: &mut Cursor<'a, Self::Token>,
     ) -> Result<Self::Item, Halt<'a, Self::Token, Self::Rule>>
-        ensures { Gives view (grammar self.now) cursor.old cursor.new result };
+        ensures { Gives (grammar self.now) cursor.old cursor.new result };
 }
 
 /// Reads the part any number of times, as long as it begins. Stops at the first fault, or where memory runs out.
+#[tactic(auto, using(crate::proofs::Turns::repeat_all))]
 pub fn repeat<'a, P: Part>(
     alloc: Global,
     part: &P,
     cursor: &mut Cursor<'a, P::Token>,
-) -> Result<Vec<P::Item>, Halt<'a, P::Token, P::Rule>>
-    ensures { Gives (λ v. map P.view v.items) (rep (P.grammar part.now)) cursor.old cursor.new result }
+) -> Result<Seq<P::Item>, Halt<'a, P::Token, P::Rule>>
+    ensures { Gives (rep (P.grammar part.now)) cursor.old cursor.new result }
 {
-    let mut items = Vec::new(alloc);
-    while part.begins(cursor) {
-        let item = part.read(alloc, cursor)?;
-        items.push(item)?;
-    }
-    cursor.skip(part.labelled());
-    Ok(items)
+    repeat_after(alloc, part, cursor, Seq::new(alloc))
 }
 
-/// A part that is read any number of times with a separator between two. An impl gives the number of the separator's kind.
+/// A part that is read any number of times with a separator between two. An impl gives the kind of the separator.
 pub trait Listed: Part {
-    ghost separator: { ℕ };
+    ghost separator: { Self.Kind };
 
     /// Whether the separator comes next.
     fn separates(&self, cursor: &Cursor<'_, Self::Token>) -> bool
-        ensures { result ≡ begins_with (alphabet Self.Token Self.Rule Self.kind) (separator ∷ []) cursor.now.rest.now };
+        ensures { result ≡ begins_with (alphabet Self.Rule Self.kind Self.code) (separator ∷ []) cursor.now.rest.now };
 }
 
 /// Reads nothing, or the part any number of times with a separator between two. Stops at the first fault, or where memory
@@ -80,34 +80,52 @@ pub fn separated<'a, P: Listed>(
     alloc: Global,
     part: &P,
     cursor: &mut Cursor<'a, P::Token>,
-) -> Result<Vec<P::Item>, Halt<'a, P::Token, P::Rule>>
-    ensures { Gives (λ v. map P.view v.items) (listed (P.separator ∷ []) (P.grammar part.now)) cursor.old cursor.new result }
+) -> Result<Seq<P::Item>, Halt<'a, P::Token, P::Rule>>
+    ensures { Gives (listed (P.separator ∷ []) (P.grammar part.now)) cursor.old cursor.new result }
 {
-    let mut items = Vec::new(alloc);
     if !part.begins(cursor) {
-        cursor.skip(part.labelled());
-        return Ok(items);
+        cursor.skip(part.marked());
+        return Ok(Seq::new(alloc));
     }
     let first = part.read(alloc, cursor)?;
+    let mut items = Seq::new(alloc);
     items.push(first)?;
-    more(alloc, part, cursor, &mut items)?;
-    Ok(items)
+    separated_after(alloc, part, cursor, items)
 }
 
-/// Reads a separator and the part any number of times, and adds to the items.
-fn more<'a, P: Listed>(
+/// Reads a separator and the part any number of times, and adds the parts to the items that stand before.
+pub fn separated_after<'a, P: Listed>(
     alloc: Global,
     part: &P,
     cursor: &mut Cursor<'a, P::Token>,
-    items: &mut Vec<P::Item>,
-) -> Result<(), Halt<'a, P::Token, P::Rule>>
-    ensures { Gives (λ _. map P.view items.new.items) (as_tree (λ xs. map P.view items.old.items ++ xs) (rep (preceded (P.separator ∷ []) (P.grammar part.now)))) cursor.old cursor.new result }
+    items: Seq<P::Item>,
+) -> Result<Seq<P::Item>, Halt<'a, P::Token, P::Rule>>
+    ensures { Gives (as_tree (λ more. items ++ more) (rep (preceded (P.separator ∷ []) (P.grammar part.now)))) cursor.old cursor.new result }
 {
+    let mut all = items;
     while part.separates(cursor) {
         let item = preceded(alloc, part, cursor)?;
-        items.push(item)?;
+        all.push(item)?;
     }
-    Ok(())
+    Ok(all)
+}
+
+/// Reads the part any number of times, and adds the parts to the items that stand before.
+pub fn repeat_after<'a, P: Part>(
+    alloc: Global,
+    part: &P,
+    cursor: &mut Cursor<'a, P::Token>,
+    items: Seq<P::Item>,
+) -> Result<Seq<P::Item>, Halt<'a, P::Token, P::Rule>>
+    ensures { Gives (as_tree (λ more. items ++ more) (rep (P.grammar part.now))) cursor.old cursor.new result }
+{
+    let mut all = items;
+    while part.begins(cursor) {
+        let item = part.read(alloc, cursor)?;
+        all.push(item)?;
+    }
+    cursor.skip(part.marked());
+    Ok(all)
 }
 
 /// Reads a separator and the part.
@@ -117,14 +135,14 @@ fn preceded<'a, P: Listed>(
     part: &P,
     cursor: &mut Cursor<'a, P::Token>,
 ) -> Result<P::Item, Halt<'a, P::Token, P::Rule>>
-    ensures { Gives P.view (preceded (P.separator ∷ []) (P.grammar part.now)) cursor.old cursor.new result }
+    ensures { Gives (preceded (P.separator ∷ []) (P.grammar part.now)) cursor.old cursor.new result }
 {
     match cursor.rest {
         [_, rest @ ..] if part.separates(cursor) => {
             cursor.rest = rest;
-            cursor.labelled = false;
+            cursor.marked = false;
         }
-        _ => return Err(Halt::At(Fault::Unexpected(cursor.labelled), cursor.rest)),
+        _ => return Err(Halt::At(Fault::Unexpected(cursor.marked), cursor.rest)),
     }
     part.read(alloc, cursor)
 }

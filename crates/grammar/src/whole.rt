@@ -1,7 +1,8 @@
 //! Reading all of the tokens.
 ghost use Rattle.std.specs.Prelude.{◌≡◌, ◌≤◌, ◌-◌, Err, false, length};
-ghost use Rattle.grammar.specs.Clauses.{Answers, Fails};
-ghost use Rattle.grammar.specs.Reading.{read};
+ghost use Rattle.grammar.specs.Answers.{Answers};
+ghost use Rattle.grammar.specs.code.Gives.{Fails};
+ghost use Rattle.grammar.specs.code.Reading.{read};
 ghost use Rattle.grammar.specs.declared.whole.Refusal.TheVariants.{Refused};
 
 use crate::cursor::{Cursor, Halt};
@@ -24,11 +25,11 @@ pub fn read_all<P: Part>(
     part: &P,
     tokens: &[P::Token],
 ) -> Result<P::Item, Refusal<P::Rule>>
-    ensures { Answers P.view (P.grammar part.now) tokens.now result }
+    ensures { Answers (P.grammar part.now) tokens.now result }
 {
     let mut cursor = Cursor {
         rest: tokens,
-        labelled: false,
+        marked: false,
     };
     match part.read(alloc, &mut cursor) {
         Err(halt) => Err(refused_for(part, halt, tokens)),
@@ -36,7 +37,7 @@ pub fn read_all<P: Part>(
             if cursor.rest.is_empty() {
                 return Ok(item);
             }
-            Err(refused(Fault::Unexpected(cursor.labelled), cursor.rest, tokens))
+            Err(refused(Fault::Unexpected(cursor.marked), cursor.rest, tokens))
         }
     }
 }
@@ -48,7 +49,7 @@ fn refused_for<P: Part>(
     tokens: &[P::Token],
 ) -> Refusal<P::Rule>
     requires { Fails halt (read (P.grammar part.now) false tokens.now) }
-    ensures { Answers P.view (P.grammar part.now) tokens.now (Err result) }
+    ensures { Answers (P.grammar part.now) tokens.now (Err result) }
 {
     let _ = part;
     match halt {

@@ -1,6 +1,6 @@
 -- The grammar.
 use Rattle.std.specs.Prelude.{ℕ, zero, suc, length, ◌+◌, Bool, true, false, if◌then◌else◌, nat_eq, nat_lt, Option, Some, None, List, [], ◌∷◌}
-use Rattle.grammar.specs.Grammar.{Alphabet, Grammar, alphabet, nothing, tok, seq, alt, opt, rep, as_tree, dep, grown, labelled, any, second, listed}
+use Rattle.grammar.specs.Grammar.{Alphabet, Grammar, alphabet, nothing, tok, seq, alt, opt, rep, as_tree, dep, grown, marked, any, second, listed}
 use Rattle.grammar_example.specs.declared.token.Kind.{Kind}
 use Rattle.grammar_example.specs.declared.token.Kind.TheVariants as kind
 use Rattle.grammar_example.specs.declared.token.Token.{Token}
@@ -13,22 +13,13 @@ use Rattle.grammar_example.specs.declared.tree.Value.{Value}
 use Rattle.grammar_example.specs.declared.tree.Value.TheVariants as value
 use Rattle.grammar_example.specs.declared.tree.Item.{Item}
 use Rattle.grammar_example.specs.declared.tree.Item.TheVariants as item
-use Rattle.grammar_example.specs.Kinds.{code}
-
--- What the items stand for.
-pub data ItemTree : Type 0 where
-  ConstTree : ℕ → ValueType → Value → ItemTree
-  FunctionTree : ℕ → List ValueType → Option ValueType → ItemTree
-
-abbrev pub view : Item → ItemTree
-view (item.Const name type value) = ConstTree name type value
-view (item.Function name params result) = FunctionTree name params.items result
+use Rattle.grammar_example.specs.code.Kinds.{code}
 
 abbrev pub tokens : Alphabet
-tokens = alphabet Token Rule (λ t. code t.kind)
+tokens = alphabet Rule (λ (t : Token). t.kind) code
 
 abbrev pub one : Kind → Grammar tokens Token
-one k = tok (code k ∷ []) any
+one k = tok (k ∷ []) any
 
 -- a number is at most 255
 abbrev pub in_range : Token → Option Rule
@@ -44,7 +35,7 @@ name = as_tree (λ t. t.value) (one kind.Name)
 
 -- "*", behind a type that has at most one
 unfoldable pub star : ValueType → Grammar tokens ValueType
-star x = as_tree (λ t. record { base = x.base; stars = x.stars + 1 }) (tok (9 ∷ []) (not_deep x.stars))
+star x = as_tree (λ t. record { base = x.base; stars = x.stars + 1 }) (tok (kind.Star ∷ []) (not_deep x.stars))
 
 abbrev pub plain : Base → ValueType
 plain b = record { base = b; stars = 0 }
@@ -55,14 +46,18 @@ base_of tuple = alt (as_tree (λ t. plain base.Int) (one kind.Int)) (alt (as_tre
 
 -- type = base { "*" }
 abbrev pub stars_of : Grammar tokens ValueType → Grammar tokens ValueType
-stars_of b = labelled (grown b (9 ∷ []) star)
+stars_of b = marked (grown b (kind.Star ∷ []) star)
 
 abbrev pub members : Grammar tokens ValueType → Grammar tokens ValueType
-members a = as_tree (λ p. plain (base.Tuple (length p.1.0))) (seq (one kind.Open) (seq (listed (11 ∷ []) a) (one kind.Close)))
+members a = as_tree (λ p. plain (base.Tuple (length p.1.0))) (seq (one kind.Open) (seq (listed (kind.Comma ∷ []) a) (one kind.Close)))
+
+-- the kinds by which a type begins
+abbrev pub type_firsts : List Kind
+type_firsts = kind.Int ∷ kind.Bool ∷ kind.Unit ∷ kind.Open ∷ []
 
 -- tuple = "(" [ type { "," type } ] ")", nested at most so deep
 unfoldable pub tuple_at : ℕ → Grammar tokens ValueType
-tuple_at zero = as_tree (λ t. plain base.Int) (tok (12 ∷ []) (λ t. Some TooDeep))
+tuple_at zero = as_tree (λ t. plain base.Int) (tok (kind.Open ∷ []) (λ t. Some TooDeep))
 tuple_at (suc depth) = members (stars_of (base_of (tuple_at depth)))
 
 -- base = "int" | "bool" | "unit" | tuple
@@ -79,7 +74,7 @@ unfoldable pub truth : Grammar tokens Value
 truth = alt (as_tree (λ t. value.Truth true) (one kind.Yes)) (as_tree (λ t. value.Truth false) (one kind.No))
 
 unfoldable pub number : Grammar tokens Value
-number = as_tree (λ t. value.Number t.value) (tok (3 ∷ []) in_range)
+number = as_tree (λ t. value.Number t.value) (tok (kind.Number ∷ []) in_range)
 
 -- of a base, with no star behind it or with some
 abbrev pub value_at : Bool → Base → Grammar tokens Value
@@ -100,25 +95,25 @@ unfoldable pub set : ValueType → Grammar tokens Value
 set x = set_at (nat_eq x.stars 0) x.base (value_of x)
 
 -- const = "const" name ":" type "=" value(type) ";"
-unfoldable pub constant : Grammar tokens ItemTree
-constant = as_tree (λ p. ConstTree p.1.0 p.1.1.1.0.0 p.1.1.1.0.1) (seq (one kind.Const) (seq name (seq (one kind.Colon) (seq (dep type_of (9 ∷ []) set) (one kind.Semicolon)))))
+unfoldable pub constant : Grammar tokens Item
+constant = as_tree (λ p. item.Const p.1.0 p.1.1.1.0.0 p.1.1.1.0.1) (seq (one kind.Const) (seq name (seq (one kind.Colon) (seq (dep type_of (kind.Star ∷ []) set) (one kind.Semicolon)))))
 
 -- result = [ ":" type ]
 unfoldable pub result_of : Grammar tokens (Option ValueType)
 result_of = opt (as_tree second (seq (one kind.Colon) type_of))
 
 -- function = "fn" name "(" [ type { "," type } ] ")" [ ":" type ] ";"
-unfoldable pub function : Grammar tokens ItemTree
-function = as_tree (λ p. FunctionTree p.1.0 p.1.1.1.0 p.1.1.1.1.1.0) (seq (one kind.Function) (seq name (seq (one kind.Open) (seq (listed (11 ∷ []) type_of) (seq (one kind.Close) (seq result_of (one kind.Semicolon)))))))
+unfoldable pub function : Grammar tokens Item
+function = as_tree (λ p. item.Function p.1.0 p.1.1.1.0 p.1.1.1.1.1.0) (seq (one kind.Function) (seq name (seq (one kind.Open) (seq (listed (kind.Comma ∷ []) type_of) (seq (one kind.Close) (seq result_of (one kind.Semicolon)))))))
 
 -- item = const | function
-unfoldable pub item_of : Grammar tokens ItemTree
+unfoldable pub item_of : Grammar tokens Item
 item_of = alt constant function
 
 -- program = { item } end
-unfoldable pub program : Grammar tokens (List ItemTree)
+unfoldable pub program : Grammar tokens (List Item)
 program = as_tree (λ p. p.0) (seq (rep item_of) (one kind.End))
 
 -- ";" end: the program without items
-unfoldable pub no_program : Grammar tokens (List ItemTree)
+unfoldable pub no_program : Grammar tokens (List Item)
 no_program = as_tree (λ p. []) (seq (one kind.Semicolon) (one kind.End))

@@ -1,3 +1,2 @@
-pub mod Kinds
 pub mod Example
-pub mod Decided
+pub mod code

@@ -1,49 +1,62 @@
 //! The reader: a function for each production.
-ghost use Rattle.std.specs.Prelude.{◌≡◌, ℕ, List, [], ◌∷◌, ◌++◌, map};
+ghost use Rattle.std.specs.Prelude.{◌≡◌, List, true, false, [], ◌∷◌, ◌++◌};
 ghost use Rattle.grammar.specs.Grammar.{alphabet, as_tree, rep, grow, preceded, listed, begins_with};
-ghost use Rattle.grammar.specs.LookAhead.{LL1, firsts, labels};
+ghost use Rattle.grammar.specs.LookAhead.{LL1, firsts, marks};
 ghost use Rattle.grammar.specs.Laws.{HoldsOnce};
 ghost use Rattle.grammar.specs.Union.{JoinHolds};
-ghost use Rattle.grammar.specs.Clauses.{Gives, Answers};
+ghost use Rattle.grammar.specs.Answers.{Answers};
+ghost use Rattle.grammar.specs.code.Gives.{Gives};
+ghost use Rattle.grammar_example.specs.declared.token.Kind.TheVariants as kind;
+ghost use Rattle.grammar_example.specs.declared.tree.Item.{Item};
 ghost use Rattle.grammar_example.specs.declared.tree.ValueType.{ValueType};
-ghost use Rattle.grammar_example.specs.Kinds.{code};
-ghost use Rattle.grammar_example.specs.Decided.{star_decided, type_decided, item_decided, program_decided, no_program_decided};
-ghost use Rattle.grammar_example.specs.Example.{tokens, ItemTree, view, one, name, star, tuple_at, members, base_at, type_at, truth, number, value_of, set, constant, result_of, function, item_of, program, no_program};
+ghost use Rattle.grammar_example.specs.code.Kinds.{code};
+ghost use Rattle.grammar_example.specs.code.Decided.{star_decided, type_starts, item_starts, program_starts, no_program_decided};
+ghost use Rattle.grammar_example.specs.Example.{tokens, type_firsts, one, name, in_range, star, tuple_at, members, base_at, type_at, truth, number, value_of, set, constant, result_of, function, item_of, program, no_program};
 
 use crate::token::{Kind, Rule, Token};
 use crate::tree::{Base, Item, Value, ValueType};
-use grammar::cursor::{Cursor, Halt};
-use grammar::fault::Fault;
-use grammar::growth::{Growth, grow};
 use grammar::laws::{Language, TwoGrammars, holds_once, join_holds};
-use grammar::part::{Listed, Part, repeat, separated};
-use grammar::whole::{Refusal, read_all};
+use grammar::{
+    Cursor, Growth, Halt, Listed, Part, Refusal, SideRule, grow, read_all, repeat, separated,
+};
+use ir_values::Seq;
 use std::alloc::Global;
 
 type Stop<'a> = Halt<'a, Token, Rule>;
 
 #[tactic(auto, unfolding(crate::specs::Example::name))]
 fn name<'a>(cursor: &mut Cursor<'a, Token>) -> Result<u64, Stop<'a>>
-    ensures { Gives (λ x. x) name cursor.old cursor.new result }
+    ensures { Gives name cursor.old cursor.new result }
 {
     Ok(cursor.take(Kind::Name)?.value)
 }
 
-#[tactic(auto, unfolding(crate::specs::Example::number))]
-fn number<'a>(cursor: &mut Cursor<'a, Token>) -> Result<Value, Stop<'a>>
-    ensures { Gives (λ x. x) number cursor.old cursor.new result }
-{
-    if let [token, ..] = cursor.rest {
-        if token.kind == Kind::Number && token.value > 255 {
-            return Err(Halt::At(Fault::Broken(Rule::TooGreat), cursor.rest));
+/// A number is at most 255.
+struct InRange;
+
+impl SideRule<Token> for InRange {
+    ghost broken = { λ _. in_range };
+
+    fn broken_by(&self, token: &Token) -> Option<Rule> {
+        if token.value > 255 {
+            Some(Rule::TooGreat)
+        } else {
+            None
         }
     }
-    Ok(Value::Number(cursor.take(Kind::Number)?.value))
+}
+
+#[tactic(auto, unfolding(crate::specs::Example::number))]
+fn number<'a>(cursor: &mut Cursor<'a, Token>) -> Result<Value, Stop<'a>>
+    ensures { Gives number cursor.old cursor.new result }
+{
+    let token = cursor.take_ruled(&[Kind::Number], &InRange)?;
+    Ok(Value::Number(token.value))
 }
 
 #[tactic(auto, unfolding(crate::specs::Example::truth))]
 fn truth<'a>(cursor: &mut Cursor<'a, Token>) -> Result<Value, Stop<'a>>
-    ensures { Gives (λ x. x) truth cursor.old cursor.new result }
+    ensures { Gives truth cursor.old cursor.new result }
 {
     if cursor.next_is(Kind::Yes) {
         cursor.take(Kind::Yes)?;
@@ -56,7 +69,7 @@ fn truth<'a>(cursor: &mut Cursor<'a, Token>) -> Result<Value, Stop<'a>>
 /// Refuses a parenthesis that is nested too deep.
 #[tactic(auto, unfolding(crate::specs::Example::tuple_at))]
 fn no_tuple<'a>(cursor: &Cursor<'a, Token>) -> Result<ValueType, Stop<'a>>
-    ensures { Gives (λ x. x) (tuple_at 0) cursor.now cursor.now result }
+    ensures { Gives (tuple_at 0) cursor.now cursor.now result }
 {
     Err(cursor.refuse(Kind::Open, Rule::TooDeep))
 }
@@ -68,7 +81,7 @@ fn tuple_at<'a>(
     depth: u32,
     cursor: &mut Cursor<'a, Token>,
 ) -> Result<ValueType, Stop<'a>>
-    ensures { Gives (λ x. x) (tuple_at depth) cursor.old cursor.new result }
+    ensures { Gives (tuple_at depth) cursor.old cursor.new result }
 {
     if depth == 0 {
         return no_tuple(cursor);
@@ -82,7 +95,7 @@ fn members<'a>(
     depth: u32,
     cursor: &mut Cursor<'a, Token>,
 ) -> Result<ValueType, Stop<'a>>
-    ensures { Gives (λ x. x) (members (type_at depth)) cursor.old cursor.new result }
+    ensures { Gives (members (type_at depth)) cursor.old cursor.new result }
 {
     cursor.take(Kind::Open)?;
     let types = types_at(alloc, depth, cursor)?;
@@ -99,35 +112,35 @@ fn types_at<'a>(
     alloc: Global,
     depth: u32,
     cursor: &mut Cursor<'a, Token>,
-) -> Result<Vec<ValueType>, Stop<'a>>
-    ensures { Gives (λ v. v.items) (listed (11 ∷ []) (type_at depth)) cursor.old cursor.new result }
+) -> Result<Seq<ValueType>, Stop<'a>>
+    ensures { Gives (listed (kind.Comma ∷ []) (type_at depth)) cursor.old cursor.new result }
 {
-    let mut types = Vec::new(alloc);
     if !next_is_type(cursor) {
         cursor.skip(true);
-        return Ok(types);
+        return Ok(Seq::new(alloc));
     }
     let first = type_at(alloc, depth, cursor)?;
+    let mut types = Seq::new(alloc);
     types.push(first)?;
-    more_types(alloc, depth, cursor, &mut types)?;
-    Ok(types)
+    types_after(alloc, depth, cursor, types)
 }
 
-/// A comma and a type any number of times, added to the types.
+/// A comma and a type any number of times, added to the types that stand before.
 #[cycle(types)]
-fn more_types<'a>(
+fn types_after<'a>(
     alloc: Global,
     depth: u32,
     cursor: &mut Cursor<'a, Token>,
-    types: &mut Vec<ValueType>,
-) -> Result<(), Stop<'a>>
-    ensures { Gives (λ _. types.new.items) (as_tree (λ xs. types.old.items ++ xs) (rep (preceded (11 ∷ []) (type_at depth)))) cursor.old cursor.new result }
+    types: Seq<ValueType>,
+) -> Result<Seq<ValueType>, Stop<'a>>
+    ensures { Gives (as_tree (λ more. types ++ more) (rep (preceded (kind.Comma ∷ []) (type_at depth)))) cursor.old cursor.new result }
 {
+    let mut all = types;
     while cursor.next_is(Kind::Comma) {
         let ty = comma_type(alloc, depth, cursor)?;
-        types.push(ty)?;
+        all.push(ty)?;
     }
-    Ok(())
+    Ok(all)
 }
 
 #[cycle(types)]
@@ -137,7 +150,7 @@ fn comma_type<'a>(
     depth: u32,
     cursor: &mut Cursor<'a, Token>,
 ) -> Result<ValueType, Stop<'a>>
-    ensures { Gives (λ x. x) (preceded (11 ∷ []) (type_at depth)) cursor.old cursor.new result }
+    ensures { Gives (preceded (kind.Comma ∷ []) (type_at depth)) cursor.old cursor.new result }
 {
     cursor.take(Kind::Comma)?;
     type_at(alloc, depth, cursor)
@@ -145,12 +158,9 @@ fn comma_type<'a>(
 
 /// Whether a type begins here.
 fn next_is_type(cursor: &Cursor<'_, Token>) -> bool
-    ensures { result ≡ begins_with tokens (4 ∷ 5 ∷ 18 ∷ 12 ∷ []) cursor.now.rest.now }
+    ensures { result ≡ begins_with tokens type_firsts cursor.now.rest.now }
 {
-    cursor.next_is(Kind::Int)
-        || cursor.next_is(Kind::Bool)
-        || cursor.next_is(Kind::Unit)
-        || cursor.next_is(Kind::Open)
+    cursor.next_is_one_of(&[Kind::Int, Kind::Bool, Kind::Unit, Kind::Open])
 }
 
 #[cycle(types)]
@@ -160,7 +170,7 @@ fn base_at<'a>(
     depth: u32,
     cursor: &mut Cursor<'a, Token>,
 ) -> Result<ValueType, Stop<'a>>
-    ensures { Gives (λ x. x) (base_at depth) cursor.old cursor.new result }
+    ensures { Gives (base_at depth) cursor.old cursor.new result }
 {
     let base = if cursor.next_is(Kind::Int) {
         cursor.take(Kind::Int)?;
@@ -184,9 +194,9 @@ fn type_at<'a>(
     depth: u32,
     cursor: &mut Cursor<'a, Token>,
 ) -> Result<ValueType, Stop<'a>>
-    ensures { Gives (λ x. x) (type_at depth) cursor.old cursor.new result }
+    ensures { Gives (type_at depth) cursor.old cursor.new result }
 {
-    cursor.labelled = true;
+    cursor.marked = true;
     let base = base_at(alloc, depth, cursor)?;
     grow(alloc, &Stars, base, cursor)
 }
@@ -200,27 +210,29 @@ struct Types {
 impl Part for Types {
     type Token = Token;
 
+    type Kind = Kind;
+
     type Rule = Rule;
 
     type Item = ValueType;
 
-    ghost kind = { λ t. code t.kind };
+    ghost kind = { λ t. t.kind };
 
-    ghost Tree = { ValueType };
+    ghost code = { code };
 
     ghost grammar = { λ m. type_at m.depth };
 
-    ghost view = { λ x. x };
+    ghost kinds = { λ _. type_firsts };
 
-    ghost decided = { λ m. type_decided m.depth };
+    ghost mark = { true };
 
-    #[tactic(auto, using(crate::specs::Decided::type_firsts))]
+    ghost starts = { λ m. type_starts m.depth };
+
     fn begins(&self, cursor: &Cursor<'_, Token>) -> bool {
         next_is_type(cursor)
     }
 
-    #[tactic(auto, unfolding(crate::specs::Example::type_at))]
-    fn labelled(&self) -> bool {
+    fn marked(&self) -> bool {
         true
     }
 
@@ -234,7 +246,7 @@ impl Part for Types {
 }
 
 impl Listed for Types {
-    ghost separator = { 11 };
+    ghost separator = { kind.Comma };
 
     fn separates(&self, cursor: &Cursor<'_, Token>) -> bool {
         cursor.next_is(Kind::Comma)
@@ -243,7 +255,7 @@ impl Listed for Types {
 
 #[tactic(auto, unfolding(crate::specs::Example::star))]
 fn star<'a>(ty: ValueType, cursor: &mut Cursor<'a, Token>) -> Result<ValueType, Stop<'a>>
-    ensures { Gives (λ x. x) (star ty) cursor.old cursor.new result }
+    ensures { Gives (star ty) cursor.old cursor.new result }
 {
     if ty.stars >= 2 {
         return Err(cursor.refuse(Kind::Star, Rule::TooDeep));
@@ -261,19 +273,19 @@ struct Stars;
 impl Growth for Stars {
     type Token = Token;
 
+    type Kind = Kind;
+
     type Rule = Rule;
 
     type Item = ValueType;
 
-    ghost kind = { λ t. code t.kind };
+    ghost kind = { λ t. t.kind };
 
-    ghost Tree = { ValueType };
+    ghost code = { code };
 
     ghost grows = { λ _ x. star x };
 
-    ghost view = { λ x. x };
-
-    ghost extensions = { 9 ∷ [] };
+    ghost extensions = { kind.Star ∷ [] };
 
     ghost decided = { λ _ x. star_decided x };
 
@@ -284,7 +296,7 @@ impl Growth for Stars {
     }
 
     #[tactic(auto, unfolding(crate::specs::Example::star))]
-    fn labelled(&self, item: &ValueType) -> bool {
+    fn marked(&self, item: &ValueType) -> bool {
         let _ = item;
         false
     }
@@ -302,7 +314,7 @@ impl Growth for Stars {
 
 #[tactic(auto, unfolding(crate::specs::Example::value_of))]
 fn value<'a>(ty: ValueType, cursor: &mut Cursor<'a, Token>) -> Result<Value, Stop<'a>>
-    ensures { Gives (λ x. x) (value_of ty) cursor.old cursor.new result }
+    ensures { Gives (value_of ty) cursor.old cursor.new result }
 {
     if ty.stars > 0 {
         cursor.take(Kind::Null)?;
@@ -316,7 +328,7 @@ fn value<'a>(ty: ValueType, cursor: &mut Cursor<'a, Token>) -> Result<Value, Sto
 
 #[tactic(auto, unfolding(crate::specs::Example::set))]
 fn set<'a>(ty: ValueType, cursor: &mut Cursor<'a, Token>) -> Result<Value, Stop<'a>>
-    ensures { Gives (λ x. x) (set ty) cursor.old cursor.new result }
+    ensures { Gives (set ty) cursor.old cursor.new result }
 {
     if ty.stars == 0 && ty.base == Base::Unit {
         return Ok(Value::Nothing);
@@ -327,7 +339,7 @@ fn set<'a>(ty: ValueType, cursor: &mut Cursor<'a, Token>) -> Result<Value, Stop<
 
 #[tactic(auto, unfolding(crate::specs::Example::constant))]
 fn constant<'a>(alloc: Global, cursor: &mut Cursor<'a, Token>) -> Result<Item, Stop<'a>>
-    ensures { Gives view constant cursor.old cursor.new result }
+    ensures { Gives constant cursor.old cursor.new result }
 {
     cursor.take(Kind::Const)?;
     let name = name(cursor)?;
@@ -343,7 +355,7 @@ fn result_of<'a>(
     alloc: Global,
     cursor: &mut Cursor<'a, Token>,
 ) -> Result<Option<ValueType>, Stop<'a>>
-    ensures { Gives (λ x. x) result_of cursor.old cursor.new result }
+    ensures { Gives result_of cursor.old cursor.new result }
 {
     if !cursor.next_is(Kind::Colon) {
         return Ok(None);
@@ -354,7 +366,7 @@ fn result_of<'a>(
 
 #[tactic(auto, unfolding(crate::specs::Example::function))]
 fn function<'a>(alloc: Global, cursor: &mut Cursor<'a, Token>) -> Result<Item, Stop<'a>>
-    ensures { Gives view function cursor.old cursor.new result }
+    ensures { Gives function cursor.old cursor.new result }
 {
     cursor.take(Kind::Function)?;
     let name = name(cursor)?;
@@ -372,27 +384,29 @@ struct Items;
 impl Part for Items {
     type Token = Token;
 
+    type Kind = Kind;
+
     type Rule = Rule;
 
     type Item = Item;
 
-    ghost kind = { λ t. code t.kind };
+    ghost kind = { λ t. t.kind };
 
-    ghost Tree = { ItemTree };
+    ghost code = { code };
 
     ghost grammar = { λ _. item_of };
 
-    ghost view = { view };
+    ghost kinds = { λ _. kind.Const ∷ kind.Function ∷ [] };
 
-    ghost decided = { λ _. item_decided };
+    ghost mark = { false };
 
-    #[tactic(auto, unfolding(crate::specs::Example::item_of, crate::specs::Example::constant, crate::specs::Example::function))]
+    ghost starts = { λ _. item_starts };
+
     fn begins(&self, cursor: &Cursor<'_, Token>) -> bool {
-        cursor.next_is(Kind::Const) || cursor.next_is(Kind::Function)
+        cursor.next_is_one_of(&[Kind::Const, Kind::Function])
     }
 
-    #[tactic(auto, unfolding(crate::specs::Example::item_of, crate::specs::Example::constant, crate::specs::Example::function))]
-    fn labelled(&self) -> bool {
+    fn marked(&self) -> bool {
         false
     }
 
@@ -411,27 +425,29 @@ struct Program;
 impl Part for Program {
     type Token = Token;
 
+    type Kind = Kind;
+
     type Rule = Rule;
 
-    type Item = Vec<Item>;
+    type Item = Seq<Item>;
 
-    ghost kind = { λ t. code t.kind };
+    ghost kind = { λ t. t.kind };
 
-    ghost Tree = { List ItemTree };
+    ghost code = { code };
 
     ghost grammar = { λ _. program };
 
-    ghost view = { λ v. map view v.items };
+    ghost kinds = { λ _. kind.Const ∷ kind.Function ∷ kind.End ∷ [] };
 
-    ghost decided = { λ _. program_decided };
+    ghost mark = { false };
 
-    #[tactic(auto, unfolding(crate::specs::Example::program, crate::specs::Example::item_of, crate::specs::Example::constant, crate::specs::Example::function))]
+    ghost starts = { λ _. program_starts };
+
     fn begins(&self, cursor: &Cursor<'_, Token>) -> bool {
-        cursor.next_is(Kind::Const) || cursor.next_is(Kind::Function) || cursor.next_is(Kind::End)
+        cursor.next_is_one_of(&[Kind::Const, Kind::Function, Kind::End])
     }
 
-    #[tactic(auto, unfolding(crate::specs::Example::program, crate::specs::Example::item_of, crate::specs::Example::constant, crate::specs::Example::function))]
-    fn labelled(&self) -> bool {
+    fn marked(&self) -> bool {
         false
     }
 
@@ -440,7 +456,7 @@ impl Part for Program {
         &self,
         alloc: Global,
         cursor: &mut Cursor<'a, Token>,
-    ) -> Result<Vec<Item>, Stop<'a>> {
+    ) -> Result<Seq<Item>, Stop<'a>> {
         let items = repeat(alloc, &Items, cursor)?;
         cursor.take(Kind::End)?;
         Ok(items)
@@ -448,8 +464,8 @@ impl Part for Program {
 }
 
 /// The items that the tokens spell, or the first fault of the tokens and how many stand before it.
-pub fn read(alloc: Global, tokens: &[Token]) -> Result<Vec<Item>, Refusal<Rule>>
-    ensures { Answers (λ v. map view v.items) program tokens.now result }
+pub fn read(alloc: Global, tokens: &[Token]) -> Result<Seq<Item>, Refusal<Rule>>
+    ensures { Answers program tokens.now result }
 {
     read_all(alloc, &Program, tokens)
 }
@@ -457,15 +473,19 @@ pub fn read(alloc: Global, tokens: &[Token]) -> Result<Vec<Item>, Refusal<Rule>>
 impl Language for Program {
     type Token = Token;
 
+    type Kind = Kind;
+
     type Rule = Rule;
 
-    ghost kind = { λ t. code t.kind };
+    ghost kind = { λ t. t.kind };
 
-    ghost Tree = { List ItemTree };
+    ghost code = { code };
+
+    ghost Tree = { List Item };
 
     ghost grammar = { program };
 
-    ghost decided = { program_decided.0 };
+    ghost decided = { program_starts.decided };
 }
 
 /// Every list of tokens spells one program, or has one first fault.
@@ -478,17 +498,21 @@ pub fn one_answer()
 impl TwoGrammars for Program {
     type Token = Token;
 
+    type Kind = Kind;
+
     type Rule = Rule;
 
-    ghost kind = { λ t. code t.kind };
+    ghost kind = { λ t. t.kind };
 
-    ghost Tree = { List ItemTree };
+    ghost code = { code };
+
+    ghost Tree = { List Item };
 
     ghost first = { program };
 
     ghost second = { no_program };
 
-    ghost decided = { (program_decided.0, no_program_decided) };
+    ghost decided = { (program_starts.decided, no_program_decided) };
 }
 
 /// The same where a semicolon stands for the program without items.
@@ -501,13 +525,14 @@ pub fn one_joined_answer()
 #[cfg(test)]
 mod tests {
     use super::*;
+    use grammar::Fault;
 
     fn token(kind: Kind, value: u64) -> Token {
         Token { kind, value }
     }
 
     /// The kinds of the tokens of a text, with 7 for each number.
-    fn read_kinds(rt: &HostRuntime, kinds: &[Kind]) -> Result<Vec<Item>, Refusal<Rule>> {
+    fn read_kinds(rt: &HostRuntime, kinds: &[Kind]) -> Result<Seq<Item>, Refusal<Rule>> {
         let mut tokens = Vec::new(rt.alloc());
         for kind in kinds {
             if tokens.push(token(*kind, 7)).is_err() {

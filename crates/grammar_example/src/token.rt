@@ -1,7 +1,7 @@
 //! Tokens.
-ghost use Rattle.grammar_example.specs.Kinds.{code};
+ghost use Rattle.grammar_example.specs.code.Kinds.{code, told_apart};
 
-use grammar::cursor::Terminal;
+use grammar::Terminal;
 
 /// The kinds of tokens.
 #[derive(Clone, Copy, Debug, PartialEq, Eq)]
@@ -49,11 +49,13 @@ impl Terminal for Token {
 
     type Rule = Rule;
 
-    ghost kind = { λ t. code t.kind };
+    ghost kind = { λ t. t.kind };
 
     ghost code = { code };
 
     fn is(&self, wanted: Kind) -> bool {
         self.kind == wanted
     }
+
+    ghost told_apart = { told_apart };
 }

@@ -1,4 +1,5 @@
 //! Trees.
+use ir_values::Seq;
 
 /// A type without its stars.
 #[derive(Clone, Copy, Debug, PartialEq, Eq)]
@@ -28,5 +29,5 @@ pub enum Value {
 #[derive(Debug, Drop)]
 pub enum Item {
     Const(u64, ValueType, Value),
-    Function(u64, Vec<ValueType>, Option<ValueType>),
+    Function(u64, Seq<ValueType>, Option<ValueType>),
 }

@@ -1,6 +1,7 @@
 use Rattle.std.proofs.Common.{◌≡◌, [], ◌∷◌, ◌++◌, ◌+◌, ◌*◌, length}
 use Rattle.grammar.specs.Grammar.{as_tree, rep, preceded}
-use Rattle.grammar.specs.Reading.{read}
+use Rattle.grammar.specs.code.Reading.{read}
+use Rattle.grammar_example.specs.declared.token.Kind.TheVariants as kind
 use Rattle.grammar_example.specs.Example.{type_at}
 use Rattle.grammar_example.proofs.reader.+types.Given as goal
 
@@ -16,8 +17,8 @@ decreases-type_at l = 8 * l.depth + 2
 abbrev pub decreases-comma_type : goal.decreases-comma_type
 decreases-comma_type l = 8 * l.depth + 3
 
-abbrev pub decreases-more_types : goal.decreases-more_types
-decreases-more_types l = 8 * l.depth + 4
+abbrev pub decreases-types_after : goal.decreases-types_after
+decreases-types_after l = 8 * l.depth + 4
 
 abbrev pub decreases-types_at : goal.decreases-types_at
 decreases-types_at l = 8 * l.depth + 5
@@ -26,8 +27,8 @@ abbrev pub decreases-members : goal.decreases-members
 decreases-members l = 8 * l.depth + 6
 
 -- what is left gives the same after what is read
-abbrev pub invariant-more_types-loop-alloc : goal.invariant-more_types-loop-alloc
-invariant-more_types-loop-alloc l = read (as_tree (λ xs. l.types.items ++ xs) (rep (preceded (11 ∷ []) (type_at l.depth)))) l.cursor.labelled l.cursor.rest.now ≡ read (as_tree (λ xs. l.fn.types.items ++ xs) (rep (preceded (11 ∷ []) (type_at l.fn.depth)))) l.fn.cursor.labelled l.fn.cursor.rest.now
+abbrev pub invariant-types_after-loop-alloc : goal.invariant-types_after-loop-alloc
+invariant-types_after-loop-alloc l = read (as_tree (λ more. l.all ++ more) (rep (preceded (kind.Comma ∷ []) (type_at l.depth)))) l.cursor.marked l.cursor.rest.now ≡ read (as_tree (λ more. l.fn.types ++ more) (rep (preceded (kind.Comma ∷ []) (type_at l.fn.depth)))) l.fn.cursor.marked l.fn.cursor.rest.now
 
-abbrev pub decreases-more_types-loop-alloc : goal.decreases-more_types-loop-alloc
-decreases-more_types-loop-alloc l = length l.cursor.rest.now
+abbrev pub decreases-types_after-loop-alloc : goal.decreases-types_after-loop-alloc
+decreases-types_after-loop-alloc l = length l.cursor.rest.now

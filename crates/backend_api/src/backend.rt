@@ -68,19 +68,23 @@ pub trait Backend {
     ghost state: { Self → BackendState };
 
     /// The events that are told fit.
-    ghost told_fits: { (b : Self) (es : List Event) → (state b).events ≡ Some es → (state b).fits es ≡ true };
+    ghost told_fits: { (b : Self) (es : List Event) → (state b).events ≡ Some es
+        → (state b).fits es ≡ true };
 
     /// Does a gate, an operation that names no result.
     fn gate(&mut self, op: Op) -> Result<(), Turned>
         requires { IsGate op }
         ensures answered { OnOk result (Answered op answer.Done (state self.old) (state self.new)) }
-        ensures refused { IfErr result (λ turned. Refused op turned (state self.old) (state self.new)) }
+        ensures refused { IfErr result (λ turned.
+            Refused op turned (state self.old) (state self.new)) }
         ensures keeps { Keeps (state self.old) (state self.new) };
 
     /// Does a measurement, an operation that names one result, and answers its bit.
     fn measure(&mut self, op: Op) -> Result<bool, Turned>
         requires { IsMeasurement op }
-        ensures answered { IfOk result (λ bit. Answered op (answer.Bit bit) (state self.old) (state self.new)) }
-        ensures refused { IfErr result (λ turned. Refused op turned (state self.old) (state self.new)) }
+        ensures answered { IfOk result (λ bit.
+            Answered op (answer.Bit bit) (state self.old) (state self.new)) }
+        ensures refused { IfErr result (λ turned.
+            Refused op turned (state self.old) (state self.new)) }
         ensures keeps { Keeps (state self.old) (state self.new) };
 }

@@ -6,7 +6,7 @@ use Rattle.backend_api.specs.contracts.operation.QubitRefPartialEq.TheImpl as bl
 use Rattle.backend_api.specs.Operations.{same_qubit}
 use Rattle.indexmap.specs.IndexMap.{Updates, get, get_by}
 use Rattle.bit_backend.specs.Actions.{with_bit}
-use Rattle.bit_backend.specs.Table.{BitTable, bit_in}
+use Rattle.bit_backend.specs.code.Table.{BitTable, bit_in}
 
 -- `==` of the table's keys
 same : (q p : QubitRef) → block.ghosts.eq q p ≡ same_qubit q p

@@ -11,7 +11,8 @@ use Rattle.bit_backend.specs.Bits.{bit_after, fits}
 -- a renamed qubit has its bit after the renamed events
 abbrev pub RenamingKeepsBits : Type 0
 RenamingKeepsBits =
-    (N : Naming) (es : List Event) (q : QubitRef) → IsInjectiveOn N (q ∷ qubits_in es) → bit_after (named_events N es) (N.qubit q) ≡ bit_after es q
+    (N : Naming) (es : List Event) (q : QubitRef) →
+    IsInjectiveOn N (q ∷ qubits_in es) → bit_after (named_events N es) (N.qubit q) ≡ bit_after es q
 
 -- a renamed operation can be done where the operation can
 abbrev pub RenamingKeepsOperations : Type 0

@@ -1,4 +1,4 @@
 pub mod Actions
 pub mod Bits
 pub mod Laws
-pub mod Table
+pub mod code

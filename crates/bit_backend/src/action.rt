@@ -42,7 +42,8 @@ pub(crate) fn action_of(op: &Op) -> Option<Action>
 
 /// The part of a name between `__quantum__qis__` and `__body`.
 fn stem_of(name: &[u8]) -> Option<&[u8]>
-    ensures { MatchOption result ((stem : List ℕ) → spec.is_named name.now stem ≡ false) (λ stem. name.now ≡ spec.named stem.now) }
+    ensures { MatchOption result ((stem : List ℕ) → spec.is_named name.now stem ≡ false)
+        (λ stem. name.now ≡ spec.named stem.now) }
 {
     name.strip_prefix(b"__quantum__qis__")?
         .strip_suffix(b"__body")

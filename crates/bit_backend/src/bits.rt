@@ -45,7 +45,7 @@ impl Model for Bits {
     ghost use Rattle.std.specs.Prelude.{◌≡◌};
     ghost use Rattle.backend_api.specs.declared.operation.QubitRef.{QubitRef};
     ghost use Rattle.bit_backend.specs.Bits.{History, bit_after};
-    ghost use Rattle.bit_backend.specs.Table.{bit_in};
+    ghost use Rattle.bit_backend.specs.code.Table.{bit_in};
 
     ghost Value = { History };
 
@@ -75,9 +75,11 @@ impl Bits {
     /// Does an operation and answers it. Memory for the table and the events is made sure of before a
     /// bit changes.
     fn perform(&mut self, op: Op) -> Result<Answer, Turned>
-        ensures answered { IfOk result (λ a. Answered op a (state_of self.old) (state_of self.new)) }
+        ensures answered { IfOk result (λ a.
+            Answered op a (state_of self.old) (state_of self.new)) }
         ensures answer { IfOk result (λ a. answer_after self.old.events op ≡ Some a) }
-        ensures refused { IfErr result (λ turned. Refused op turned (state_of self.old) (state_of self.new)) }
+        ensures refused { IfErr result (λ turned.
+            Refused op turned (state_of self.old) (state_of self.new)) }
     {
         let Some(action) = action_of(&op) else {
             return Err(Turned {
@@ -113,8 +115,10 @@ impl Backend for Bits {
     /// before it.
     fn measure(&mut self, op: Op) -> Result<bool, Turned>
         requires { IsMeasurement op }
-        ensures answered { IfOk result (λ bit. Answered op (answer.Bit bit) (state_of self.old) (state_of self.new)) }
-        ensures refused { IfErr result (λ turned. Refused op turned (state_of self.old) (state_of self.new)) }
+        ensures answered { IfOk result (λ bit.
+            Answered op (answer.Bit bit) (state_of self.old) (state_of self.new)) }
+        ensures refused { IfErr result (λ turned.
+            Refused op turned (state_of self.old) (state_of self.new)) }
         ensures keeps { Keeps (state_of self.old) (state_of self.new) }
         ensures bit { IfOk result (λ bit. answer_after self.old.events op ≡ Some (answer.Bit bit)) }
     {

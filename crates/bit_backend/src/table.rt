@@ -3,7 +3,7 @@ ghost use Rattle.std.specs.Prelude.{◌≡◌, ◌+◌, ◌<◌, ◌≤◌};
 ghost use Rattle.indexmap.specs.IndexMap.{spare};
 ghost use Rattle.backend_api.specs.declared.operation.QubitRef.{QubitRef};
 ghost use Rattle.bit_backend.specs.Actions.{after_action, answer_to, flipped, with_bit};
-ghost use Rattle.bit_backend.specs.Table.{bit_in};
+ghost use Rattle.bit_backend.specs.code.Table.{bit_in};
 
 use crate::action::Action;
 use backend_api::{Answer, QubitRef};
@@ -68,7 +68,8 @@ fn flip(table: &mut Table, qubit: QubitRef)
 
 fn swap(table: &mut Table, a: QubitRef, b: QubitRef)
     requires { 2 ≤ spare table.old }
-    ensures { (p : QubitRef) → bit_in table.new p ≡ after_action (Action.Swap a b) (bit_in table.old) p }
+    ensures { (p : QubitRef) → bit_in table.new p
+        ≡ after_action (Action.Swap a b) (bit_in table.old) p }
 {
     let bit_of_a = bit_in(table, a);
     let bit_of_b = bit_in(table, b);

@@ -1,7 +1,7 @@
 //! The program: the words after its name, standard input and standard output, and the status.
 #![tactic(auto)]
 
-ghost use Rattle.std.specs.Prelude.{◌≡◌, ◌≢◌, drop, ForOk, IfOk, IfErr};
+ghost use Rattle.std.specs.Prelude.{◌≡◌, ◌≢◌, drop, IfOk, IfErr};
 ghost use Rattle.std.specs.IoError.{error_kind};
 ghost use Rattle.std.specs.Process.{exit_status};
 ghost use Rattle.std.specs.Vec.Iter.{into_iter_items};
@@ -32,11 +32,13 @@ fn main(rt: HostRuntime) -> ExitCode {
 /// - `Memory` says that there was none for them.
 /// - `BadWords` says that the system doesn't give them as text.
 fn words_after_name(alloc: Global, args: io::Result<Args>) -> Result<Vec<String>, Status>
-    ensures words { IfOk args (λ args. IfOk result (λ words. words.items ≡ drop 1 (into_iter_items args))) }
+    ensures words { IfOk args (λ args.
+        IfOk result (λ words. words.items ≡ drop 1 (into_iter_items args))) }
     ensures memory { IfOk args (λ _. IfErr result (λ status. status ≡ Status.Memory)) }
-    ensures unread { IfErr args (λ e. error_kind e ≡ ErrorKind.OutOfMemory → result ≡ Err Status.Memory) }
-    ensures no_text { IfErr args (λ e. error_kind e ≢ ErrorKind.OutOfMemory
-        → result ≡ Err Status.BadWords) }
+    ensures none { IfErr args (λ e.
+        error_kind e ≡ ErrorKind.OutOfMemory → result ≡ Err Status.Memory) }
+    ensures no_text { IfErr args (λ e.
+        error_kind e ≢ ErrorKind.OutOfMemory → result ≡ Err Status.BadWords) }
 {
     let mut args = match args {
         Ok(args) => args,

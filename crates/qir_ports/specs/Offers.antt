@@ -8,7 +8,8 @@ module _ {K : Type 0} (may : K → List ℕ → Result ℕ Failed → K → Type
   -- such calls wrote the first bytes, so many of them, and led to a sink
   pub data Offers : ℕ → K → Type 0 where
     none : Offers 0 first
-    more : {written n : ℕ} {k now : K} → Offers written k → written < length bytes → may k (drop written bytes) (Ok n) now → Offers (written + n) now
+    more : {written n : ℕ} {k now : K} → Offers written k → written < length bytes
+        → may k (drop written bytes) (Ok n) now → Offers (written + n) now
 
   -- and the call after them failed
   pub record OffersToFailure (written : ℕ) (now : K) : Type 0 where

@@ -59,7 +59,8 @@ pub trait Sink {
     fn write(&mut self, bytes: &[u8]) -> Result<usize, Failed>
         ensures within { IfOk result (λ n. n ≤ length bytes.now) }
         ensures some { IfOk result (λ n. 0 < length bytes.now → 0 < n) }
-        ensures takes { IfOk result (λ n. Takes (taken self.old) (take n bytes.now) (taken self.new)) }
+        ensures takes { IfOk result (λ n.
+            Takes (taken self.old) (take n bytes.now) (taken self.new)) }
         ensures counts { OnErr result (Rose (faults self.old) (faults self.new)) }
         ensures keeps { OnErr result (taken self.new ≡ taken self.old) }
         ensures writes { may_write self.old bytes.now result self.new }

@@ -21,7 +21,7 @@ pub trait SteadyRead: Read {
     ghost steady: { (reader : Self) → is_some (Self.remaining reader) ≡ tells };
 }
 
-impl SteadyRead for StdinLock<'_> {
+impl SteadyRead for StdinLock<'static> {
     ghost tells = { false };
 
     ghost steady = { λ _. refl };

@@ -78,7 +78,8 @@ impl Backend for Script {
     fn gate(&mut self, op: Op) -> Result<(), Turned>
         requires { IsGate op }
         ensures answered { OnOk result (Answered op answer.Done (seen self.old) (seen self.new)) }
-        ensures refused { IfErr result (λ turned. Refused op turned (seen self.old) (seen self.new)) }
+        ensures refused { IfErr result (λ turned.
+            Refused op turned (seen self.old) (seen self.new)) }
         ensures keeps { Keeps (seen self.old) (seen self.new) }
         ensures left { self.new.left ≡ self.old.left }
     {
@@ -92,8 +93,10 @@ impl Backend for Script {
     /// Answers the first bit left. [`Stop::Empty`] comes exactly where none is left.
     fn measure(&mut self, op: Op) -> Result<bool, Turned>
         requires { IsMeasurement op }
-        ensures answered { IfOk result (λ bit. Answered op (answer.Bit bit) (seen self.old) (seen self.new)) }
-        ensures refused { IfErr result (λ turned. Refused op turned (seen self.old) (seen self.new)) }
+        ensures answered { IfOk result (λ bit.
+            Answered op (answer.Bit bit) (seen self.old) (seen self.new)) }
+        ensures refused { IfErr result (λ turned.
+            Refused op turned (seen self.old) (seen self.new)) }
         ensures keeps { Keeps (seen self.old) (seen self.new) }
         ensures next { IfOk result (λ bit. self.old.left ≡ bit ∷ self.new.left) }
         ensures left { OnErr result (self.new.left ≡ self.old.left) }

@@ -1,5 +1,5 @@
 use Rattle.std.proofs.Common.{sym, ◌∙◌}
-use Rattle.bit_backend.specs.Table.{bit_in}
+use Rattle.bit_backend.specs.code.Table.{bit_in}
 use Rattle.bit_backend.proofs.Histories.{fits-answered, bits-answered}
 use Rattle.bit_backend.proofs.bits.Bits.perform.Goals as goal
 

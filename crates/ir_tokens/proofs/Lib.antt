@@ -1,0 +1,4 @@
+pub mod Decoded
+pub mod Positions
+pub mod Scanning
+pub mod Values

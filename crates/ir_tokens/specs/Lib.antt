@@ -1,0 +1,9 @@
+pub mod code
+pub mod Classified
+pub mod Decoded
+pub mod Numbers
+pub mod Positions
+pub mod Spelled
+pub mod Texts
+pub mod Tokens
+pub mod Words

@@ -3,7 +3,7 @@ use Rattle.std.proofs.Common.{◌≡◌, ◌<◌, Bool, true, false, ◌||◌, L
 use Rattle.std.proofs.lemmas.List.{append-nil}
 use Rattle.grammar.specs.declared.cursor.Halt.{Halt}
 use Rattle.grammar.specs.declared.cursor.Halt.TheVariants.{Memory, At}
-use Rattle.grammar.specs.Grammar.{Alphabet, Grammar, rep, grow, as_tree, preceded, listed, begins_with}
+use Rattle.grammar.specs.Grammar.{Alphabet, Grammar, tok, any, ignored, rep, grow, as_tree, preceded, listed, begins_with}
 use Rattle.grammar.specs.LookAhead.{nullable, firsts, marks, LL1}
 use Rattle.grammar.specs.code.Reading.{Out, Got, Stop, then_do, read}
 use Rattle.grammar.specs.code.Gives.{Fails}
@@ -78,3 +78,21 @@ nothing_before (Stop w us) = refl
 
 pub repeat_all : {L : Alphabet} {A : Type 0} (g : Grammar L A) (c : Bool) (ts : List L.Token) → read (as_tree (λ more. [] ++ more) (rep g)) c ts ≡ read (rep g) c ts
 repeat_all g c ts = nothing_before (read (rep g) c ts)
+
+-- tokens that are ignored
+
+module _ {L : Alphabet} (s : List L.Kind) (c : Bool) (ts : List L.Token) where
+  pub ignore_smaller : (x : L.Token) (d : Bool) (us : List L.Token) → begins_with L s ts ≡ true → read {L = L} (tok s any) c ts ≡ Got x d us → length us < length ts
+  ignore_smaller x d us b e = shorter L (tok s any) tt c ts x d us b e
+
+  pub ignore_kept : (x : L.Token) (d : Bool) (us : List L.Token) (all : Out L (Unit {0})) → begins_with L s ts ≡ true → read {L = L} (tok s any) c ts ≡ Got x d us → read {L = L} (ignored s) c ts ≡ all → read {L = L} (ignored s) d us ≡ all
+  unfolding ignored
+  ignore_kept x d us all b e i = sym (goes_on L (tok s any) tt (λ _. tt) (λ _. tt) x c ts d us (λ xs. refl) b e) ∙ i
+
+  pub ignore_ends : (all : Out L (Unit {0})) → begins_with L s ts ≡ false → read {L = L} (ignored s) c ts ≡ all → all ≡ Got tt c ts
+  unfolding ignored
+  ignore_ends all b i = sym i ∙ (ends L (tok s any) tt (λ _. tt) c ts b ∙ ap (λ z. Got tt z ts) (or_false_right c))
+
+  pub ignore_fails : (all : Out L (Unit {0})) (e : Halt L.Token L.Rule) → begins_with L s ts ≡ true → Fails {L = L} e (read {L = L} (tok s any) c ts) → read {L = L} (ignored s) c ts ≡ all → Fails {L = L} e all
+  unfolding ignored
+  ignore_fails all e b f i = fails L (tok s any) tt (λ _. tt) all c ts e b f i

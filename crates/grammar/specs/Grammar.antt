@@ -79,3 +79,7 @@ listed s a = as_tree or_none (opt (as_tree cons (seq a (rep (preceded s a)))))
 -- a, and then parts that grow on it
 abbrev pub grown : {L : Alphabet} {A : Type 0} → Grammar L A → List L.Kind → (A → Grammar L A) → Grammar L A
 grown a s f = as_tree second (dep a s (λ x. grow x s f))
+
+-- { s }, without trees
+unfoldable pub ignored : {L : Alphabet} → List L.Kind → Grammar L (Unit {0})
+ignored s = as_tree (λ _. tt) (rep (tok s any))

@@ -1,6 +1,6 @@
 //! A place in a list of tokens, and what reading gives up with.
 ghost use Rattle.std.specs.Prelude.{◌≡◌, ℕ, Bool, true, nat_eq, Option, Some, None, Err, IfOk, ◌||◌, [], ◌∷◌};
-ghost use Rattle.grammar.specs.Grammar.{alphabet, tok, opt, any, has, begins_with};
+ghost use Rattle.grammar.specs.Grammar.{alphabet, tok, opt, any, has, begins_with, ignored};
 ghost use Rattle.grammar.specs.code.Gives.{Gives, Fails};
 ghost use Rattle.grammar.specs.code.Reading.{read};
 ghost use Rattle.grammar.specs.declared.cursor.Halt.TheVariants as halt;
@@ -162,6 +162,16 @@ impl<'a, T: Terminal> Cursor<'a, T> {
             return Ok(None);
         }
         Ok(Some(self.take_one_of(kinds)?))
+    }
+
+    /// Passes over tokens of these kinds, as long as one comes next.
+    pub fn ignore(&mut self, kinds: &[T::Kind]) -> Result<(), Halt<'a, T, T::Rule>>
+        ensures { Gives {L = alphabet T.Rule T.kind T.code} (ignored kinds.now) self.old self.new result }
+    {
+        while self.next_is_one_of(kinds) {
+            self.take_one_of(kinds)?;
+        }
+        Ok(())
     }
 
     /// Takes the next token, which is to be of one of the kinds and to keep the rule.

@@ -611,16 +611,16 @@ mod tests {
             Ok(items) => {
                 assert_eq!(rt; items.len(), 3);
                 assert!(rt;
-                    matches!(&items[0], Item::Const(7, ty, Value::Nothing) if ty.base == Base::Unit)
+                    matches!(items.at(0), Item::Const(7, ty, Value::Nothing) if ty.base == Base::Unit)
                 );
                 assert!(rt;
-                    matches!(&items[1], Item::Const(7, ty, Value::Number(7)) if ty.base == Base::Int)
+                    matches!(items.at(1), Item::Const(7, ty, Value::Number(7)) if ty.base == Base::Int)
                 );
-                match &items[2] {
+                match items.at(2) {
                     Item::Function(7, params, Some(result)) => {
                         assert_eq!(rt; params.len(), 1);
-                        assert_eq!(rt; params[0].base, Base::Tuple(2));
-                        assert_eq!(rt; params[0].stars, 1);
+                        assert_eq!(rt; params.at(0).base, Base::Tuple(2));
+                        assert_eq!(rt; params.at(0).stars, 1);
                         assert_eq!(rt; result.base, Base::Bool);
                     }
                     _ => assert!(rt; false, "a function"),

@@ -1,0 +1,11 @@
+pub mod Forms
+pub mod SideRules
+pub mod Words
+pub mod Types
+pub mod Operands
+pub mod Instructions
+pub mod Blocks
+pub mod Functions
+pub mod Metadata
+pub mod Module
+pub mod code

@@ -1,0 +1,5 @@
+pub mod DecidedTypes
+pub mod DecidedOperands
+pub mod DecidedInstructions
+pub mod DecidedBlocks
+pub mod DecidedItems

@@ -1,9 +1,10 @@
 //! The next token of a text.
-ghost use Rattle.std.specs.Prelude.{ℕ, ◌-◌, ◌≡◌, ◌≢◌, ◌≤◌, ◌<◌, ◌↔◌, true, false};
-ghost use Rattle.std.specs.Prelude.{List, length, drop, map, IfOk, IfErr};
+ghost use Rattle.std.specs.Prelude.{ℕ, ◌-◌, ◌≡◌, ◌≢◌, ◌≤◌, ◌<◌, ◌↔◌, ◌⊎◌, true, false};
+ghost use Rattle.std.specs.Prelude.{List, [], ◌∷◌, ◌++◌, length, drop, map, Ok, Err, IfOk, IfErr};
 ghost use Rattle.ir_text.specs.code.Next as spec;
 ghost use Rattle.ir_text.specs.code.Next.{answers, then_more};
 ghost use Rattle.ir_text.specs.code.LabelFree.{IsLabelFree, ends_label};
+ghost use Rattle.ir_text.specs.Breaks.{Breaks};
 ghost use Rattle.ir_text.specs.Tokens.{is_blank, IsNext, IsFault, Tokens};
 
 use crate::fault::fault_in;
@@ -130,12 +131,19 @@ fn next_at(bytes: &[u8], at: usize, rest: &[u8], label_free: bool) -> Result<(To
 
 /// A text has at most one list of tokens, and `next_token` gives it: called again and again, each
 /// time with the end of the slice before, it answers these tokens up to the end exactly where there
-/// is such a list. Otherwise a fault comes last.
+/// is such a list. Otherwise it answers the tokens before the first fault, and then that.
 pub fn tokens_are_one()
     ensures one { (bytes : List ℕ) (some others : List (Tok × Span)) →
         Tokens bytes some → Tokens bytes others → some ≡ others }
     ensures called { (bytes : List ℕ) (tokens : List (Tok × Span)) →
         Tokens bytes tokens ↔ (answers 0 bytes ≡ map Ok tokens) }
+
+    // Where there is none, the text breaks off at its first fault: the tokens before it and the fault
+    // are the answers.
+    ensures either { (bytes : List ℕ) → ((tokens : List (Tok × Span)) × Tokens bytes tokens)
+        ⊎ ((tokens : List (Tok × Span)) × (error : LexError) × Breaks bytes tokens error) }
+    ensures broken { (bytes : List ℕ) (tokens : List (Tok × Span)) (error : LexError) →
+        Breaks bytes tokens error ↔ (answers 0 bytes ≡ map Ok tokens ++ Err error ∷ []) }
 
     // The answers from a place on are the next one and those behind it.
     ensures step { (at : ℕ) (rest : List ℕ) →

@@ -6,4 +6,5 @@ pub mod Positions
 pub mod Spelled
 pub mod Texts
 pub mod Tokens
+pub mod Whole
 pub mod Words

@@ -117,10 +117,6 @@ pub(crate) fn name_bytes(alloc: Global, name: &[u8]) -> Result<Bytes, Memory>
 {
     match name {
         [b'"', ..] => decode(alloc, between(name)),
-        _ => {
-            let mut bytes = Bytes::new(alloc);
-            bytes.extend_from_slice(name)?;
-            Ok(bytes)
-        }
+        _ => Bytes::from_slice(alloc, name),
     }
 }

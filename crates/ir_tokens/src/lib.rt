@@ -6,6 +6,7 @@ mod classify;
 mod digits;
 mod escapes;
 mod kind;
+mod laws;
 mod lines;
 mod number;
 mod parts;
@@ -16,6 +17,7 @@ mod token;
 mod words;
 
 pub use kind::Kind;
+pub use laws::scanned_tokens_are_one;
 pub use lines::{Lines, Position};
 pub use number::Number;
 pub use rule::Rule;

@@ -102,7 +102,7 @@ fn names_and_strings_by_their_tokens(rt: HostRuntime) -> Result<(), Fail> {
     let [local, label, global, string, _] = scanned.tokens.as_slice() else {
         return Ok(assert!(rt; false));
     };
-    assert_eq!(rt; spelling(text, label.place), b"5:");
+    assert_eq!(rt; spelling(text, label.place), b"5:".as_slice());
     assert_eq!(rt;
         name_at(rt.alloc(), text, *local)?,
         Name::Text(Bytes::from_slice(rt.alloc(), b"a\\")?)
@@ -112,7 +112,10 @@ fn names_and_strings_by_their_tokens(rt: HostRuntime) -> Result<(), Fail> {
         name_at(rt.alloc(), text, *global)?,
         Name::Text(Bytes::from_slice(rt.alloc(), b"5")?)
     );
-    assert_eq!(rt; string_at(rt.alloc(), text, *string)?.as_slice(), b"a\0");
+    assert_eq!(rt;
+        string_at(rt.alloc(), text, *string)?.as_slice(),
+        b"a\0".as_slice()
+    );
     Ok(())
 }
 

@@ -145,6 +145,10 @@ pub fn tokens_are_one()
     ensures broken { (bytes : List ℕ) (tokens : List (Tok × Span)) (error : LexError) →
         Breaks bytes tokens error ↔ (answers 0 bytes ≡ map Ok tokens ++ Err error ∷ []) }
 
+    // The next token is answered from every place from which it is the next.
+    ensures next { (at : ℕ) (rest : List ℕ) (found : Tok × Span) →
+        IsNext at rest found → spec.next at rest ≡ Ok found }
+
     // The answers from a place on are the next one and those behind it.
     ensures step { (at : ℕ) (rest : List ℕ) →
         answers at rest ≡ then_more answers at rest (spec.next at rest) }

@@ -1,0 +1,11 @@
+pub mod Order
+pub mod Walks
+pub mod Frontier
+pub mod Count
+pub mod Back
+pub mod Verdict
+pub mod Lists
+pub mod Decide
+pub mod Numbered
+pub mod Unique
+pub mod Visits

@@ -1,0 +1,5 @@
+pub mod Paths
+pub mod Openings
+pub mod Verdict
+pub mod Laws
+pub mod code

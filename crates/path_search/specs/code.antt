@@ -1,0 +1,4 @@
+pub mod Frontier
+pub mod Steps
+pub mod Visit
+pub mod Answers

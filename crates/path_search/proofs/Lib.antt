@@ -9,3 +9,4 @@ pub mod Decide
 pub mod Numbered
 pub mod Unique
 pub mod Visits
+pub mod Made

@@ -7,7 +7,7 @@ use mathlib.Core.Logic.{◌⊎◌, inl, inr}
 use Rattle.path_search.specs.Paths.{Search, Bad, successors, IsEnd, IsSimple, LiesOn}
 use Rattle.path_search.specs.Verdict.{IsBack, Refuses}
 use Rattle.path_search.specs.code.Frontier.{Frontier, Checked}
-use Rattle.path_search.specs.code.Visit.{IsOnce, position, LeadTo, IsEntered, HasIndex, IsOnStack, Says, IsVisit, Reaches, Grows, AreLinks, Keeps, IsDone, IsNumbered, number_of, links_of, work, next_frame}
+use Rattle.path_search.specs.code.Visit.{IsWith, IsOnce, position, LeadTo, IsEntered, HasIndex, IsOnStack, Says, IsVisit, Reaches, Grows, AreLinks, Keeps, IsDone, IsNumbered, number_of, links_of, work, next_frame}
 use Rattle.path_search.specs.code.Steps.{target, label, AllAt}
 use Rattle.path_search.specs.declared.graph.Edge.{Edge}
 use Rattle.path_search.specs.declared.visit.Link.{Link}
@@ -585,3 +585,15 @@ keeps_more Valid Carries table table' found f at k kept here own hs among next =
     carries : (n : ℕ) (x : Found _ _) → slice_get found n ≡ Some x ⊎ ((n ≡ length found) × (f ≡ x)) → (h : _) × (slice_get table' x.index ≡ Some h) × Carries h x.item (map (λ (l : Link _). l.label) x.links)
     carries n x (inl e) = let t = k.carries n x e in (t.0, kept x.index t.0 t.1, t.2)
     carries n x (inr e) = (at, ap (λ (y : Found _ _). slice_get table' y.index) (sym e.1) ∙ here, subst (λ (y : Found _ _). Carries at y.item (map (λ (l : Link _). l.label) y.links)) e.1 own)
+
+-- the first node of a table
+pub first_node : {N : Type 0} (old new : List N) (h : N) → old ≡ [] → IsWith old h new → new ≡ h ∷ []
+first_node old new h e (inl w) = absurd (omega (arith, ap length e, w.0.1))
+first_node old new h e (inr w) = w.1 ∙ ap (λ x. x ++ h ∷ []) e
+
+pub keeps_start : {N D E : Type 0} (Valid : ℕ → N → Type 0) (Carries : N → D → List E → Type 0) (h : N) → Valid 0 h → Keeps {D = D} {E = E} Valid Carries (h ∷ []) []
+keeps_start {N} {D} {E} Valid Carries h k = record { valid = valid; carries = λ n f e. absurd (none-some f e) }
+  where
+    valid : (i : ℕ) (x : N) → slice_get (h ∷ []) i ≡ Some x → (depth : ℕ) × (depth ≤ length {A = Found D E} []) × Valid depth x
+    valid zero x e = (0, omega arith, subst (Valid 0) (same_Some h x e) k)
+    valid (suc i) x e = absurd (none-some x e)

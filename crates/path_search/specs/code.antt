@@ -2,3 +2,4 @@ pub mod Frontier
 pub mod Steps
 pub mod Visit
 pub mod Answers
+pub mod Assembly

@@ -1,7 +1,7 @@
 //! The state of a visit, and its moves.
 ghost use Rattle.std.specs.Prelude.{◌≡◌, ℕ, suc, ◌+◌, ◌<◌, ◌≤◌, ◌^◌, ◌⊎◌, List, [], ◌∷◌, ◌++◌, length, IsTrue, IsFalse, IfOk, OnOk, IfNone, IfSome, Some, slice_get};
 ghost use Rattle.path_search.specs.code.Steps.{search};
-ghost use Rattle.path_search.specs.code.Visit.{IsOnce, Grows, AreLinks, LeadsToOpen, IsVisit, Reaches, Keeps, IsRefused, IsDone, IsFollowed, next_frame, work};
+ghost use Rattle.path_search.specs.code.Visit.{IsOnce, Grows, AreLinks, LeadsToOpen, IsVisit, Reaches, Keeps, IsRefused, IsDone, IsFollowed, next_frame, number_of, work};
 ghost use Rattle.path_search.specs.declared.visit.Link.{Link};
 ghost use Rattle.path_search.specs.declared.visit.Frame.{Frame};
 ghost use Rattle.path_search.specs.declared.visit.Mark.TheVariants.{Seen, Open};
@@ -51,6 +51,18 @@ impl Mark {
     {
         matches!(self, Mark::Open(_))
     }
+
+    /// The number of the node in path order. It was entered.
+    pub fn number(self) -> usize
+        requires { (n : ℕ) × (number_of self ≡ Some n) }
+        ensures { number_of self ≡ Some result }
+    {
+        match self {
+            Mark::Seen => unreachable!(),
+            Mark::Open(number) => number,
+            Mark::Left(number) => number,
+        }
+    }
 }
 
 /// A node that was entered: its index in the table, what it carries, and its links by index.
@@ -89,6 +101,7 @@ pub enum Move {
 }
 
 /// A graph that is searched, and what is permitted of it.
+#[derive(Drop)]
 pub struct Explorer<'a, G> {
     pub graph: &'a G,
     pub limits: Limits,

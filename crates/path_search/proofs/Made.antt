@@ -138,5 +138,5 @@ module _ {N K D E : Type 0} (s : Search N K) (Valid : ℕ → N → Type 0) (Car
               let w = get_some nodes l.to (omega (arith, a.number, sym number, get_within found n.number n.index.0 n.index.1)) in
               let h = entered.links.to j o.0 o.1 in
               let its : slice_get table o.0.to ≡ Some w.0.node =
-                  ap (slice_get table) (sym n.index.2) ∙ (a.each l.to n.index.0 w.0 (ap (slice_get found) (sym number) ∙ n.index.1) w.1).node in
+              ap (slice_get table) (sym n.index.2) ∙ (a.each l.to n.index.0 w.0 (ap (slice_get found) (sym number) ∙ n.index.1) w.1).node in
               (w.0, w.1, ap (λ x. slice_get (successors s x) j) (sym same) ∙ h.1 ∙ ap Some (same_Some h.0 w.0.node (sym h.2 ∙ its)))

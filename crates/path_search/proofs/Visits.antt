@@ -22,7 +22,6 @@ use Rattle.path_search.proofs.Frontier.{get_push, get_within, get_some, listed, 
 use Rattle.path_search.proofs.Verdict.{checks_none, checks_more, refuses_over, refuses_bad, refuses_back, accepts, longest}
 use Rattle.path_search.proofs.Lists.{length_push, get_last, get_left, cut_at, Where, last, before, whereabouts, set_get, map_push, Part, map_prefix}
 
-
 position_push : (fs : List Frame) (f : Frame) (k : ℕ) → f.choice ≡ k → position (fs ++ f ∷ []) ≡ position fs ++ k ∷ []
 position_push fs f k e = map_push (λ (x : Frame). x.choice) fs (f ∷ []) ∙ ap (λ n. position fs ++ n ∷ []) e
 

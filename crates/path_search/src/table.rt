@@ -72,7 +72,7 @@ impl<N: Exact + Hash + Drop> Table<N> {
     }
 
     /// The nodes.
-    pub fn into_nodes(self, alloc: Global) -> Result<Vec<Option<N>>, Memory> 
+    pub fn into_nodes(self, alloc: Global) -> Result<Vec<Option<N>>, Memory>
         ensures { IfOk result (λ v. v.items ≡ map Some self) }
     {
         let Table { nodes } = self;

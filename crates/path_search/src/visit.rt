@@ -162,7 +162,6 @@ pub fn leads_back<E>(marks: &Seq<Mark>, links: &[Link<E>]) -> bool
     false
 }
 
-
 /// Goes on to the next choice at the last node of the path.
 pub fn next_choice(stack: &mut Seq<Frame>)
     requires inside { 0 < length stack.old }

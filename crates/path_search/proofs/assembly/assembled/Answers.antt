@@ -22,7 +22,7 @@ renumbered-requires g c =
     let at = c.loop-entered in
     let steps : into_iter_items at.entered-iterator ≡ c.in-Some.entered ∷ into_iter_items c.next.new.self = c.in-Some.ensures.steps.0 in
     let now : c.args.visit.found ≡ at.yielded ++ c.in-Some.entered ∷ into_iter_items c.next.new.self =
-        sym c.into_vec-entered-items.ensures ∙ sym c.into_iter-entered-iterator.ensures.into_iter_gives.0 ∙ sym at.invariant.whole ∙ ap (λ x. at.yielded ++ x) steps in
+    sym c.into_vec-entered-items.ensures ∙ sym c.into_iter-entered-iterator.ensures.into_iter_gives.0 ∙ sym at.invariant.whole ∙ ap (λ x. at.yielded ++ x) steps in
     c.requires.numbered (length at.yielded) c.in-Some.entered (item_at c.args.visit.found at.yielded (into_iter_items c.next.new.self) c.in-Some.entered now)
 
 pub take_from-node-requires : goal.take_from-node-requires
@@ -30,7 +30,7 @@ take_from-node-requires g c =
     let at = c.loop-entered in
     let steps : into_iter_items at.entered-iterator ≡ c.in-Some.entered ∷ into_iter_items c.next.new.self = c.in-Some.ensures.steps.0 in
     let now : c.args.visit.found ≡ at.yielded ++ c.in-Some.entered ∷ into_iter_items c.next.new.self =
-        sym c.into_vec-entered-items.ensures ∙ sym c.into_iter-entered-iterator.ensures.into_iter_gives.0 ∙ sym at.invariant.whole ∙ ap (λ x. at.yielded ++ x) steps in
+    sym c.into_vec-entered-items.ensures ∙ sym c.into_iter-entered-iterator.ensures.into_iter_gives.0 ∙ sym at.invariant.whole ∙ ap (λ x. at.yielded ++ x) steps in
     let t = at.invariant.slots (length at.yielded) c.in-Some.entered (omega arith) (item_at c.args.visit.found at.yielded (into_iter_items c.next.new.self) c.in-Some.entered now) in
     (t.0, t.2)
 
@@ -39,7 +39,7 @@ loop-entered-preserved g c =
     let at = c.loop-entered in
     let steps : into_iter_items at.entered-iterator ≡ c.in-Some.entered ∷ into_iter_items c.next.new.self = c.in-Some.ensures.steps.0 in
     let now : c.args.visit.found ≡ at.yielded ++ c.in-Some.entered ∷ into_iter_items c.next.new.self =
-        sym c.into_vec-entered-items.ensures ∙ sym c.into_iter-entered-iterator.ensures.into_iter_gives.0 ∙ sym at.invariant.whole ∙ ap (λ x. at.yielded ++ x) steps in
+    sym c.into_vec-entered-items.ensures ∙ sym c.into_iter-entered-iterator.ensures.into_iter_gives.0 ∙ sym at.invariant.whole ∙ ap (λ x. at.yielded ++ x) steps in
     let here = item_at c.args.visit.found at.yielded (into_iter_items c.next.new.self) c.in-Some.entered now in
     let t = at.invariant.slots (length at.yielded) c.in-Some.entered (omega arith) here in
     let one : t.0 ≡ c.take_from-node.result = same_Some t.0 c.take_from-node.result (same_Some (Some t.0) (Some c.take_from-node.result) (sym t.2 ∙ c.take_from-node.ensures.taken)) in

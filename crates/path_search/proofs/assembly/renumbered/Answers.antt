@@ -18,7 +18,7 @@ at-requires g c =
     let at = c.loop-link in
     let steps : into_iter_items at.link-iterator ≡ c.in-Some.link ∷ into_iter_items c.next.new.self = c.in-Some.ensures.steps.0 in
     let now : c.args.links ≡ at.yielded ++ c.in-Some.link ∷ into_iter_items c.next.new.self =
-        sym c.into_vec-link-items.ensures ∙ sym c.into_iter-link-iterator.ensures.into_iter_gives.0 ∙ sym at.invariant.whole ∙ ap (λ x. at.yielded ++ x) steps in
+    sym c.into_vec-link-items.ensures ∙ sym c.into_iter-link-iterator.ensures.into_iter_gives.0 ∙ sym at.invariant.whole ∙ ap (λ x. at.yielded ++ x) steps in
     let t = c.requires (length at.yielded) c.in-Some.link (item_at c.args.links at.yielded (into_iter_items c.next.new.self) c.in-Some.link now) in
     get_within c.args.marks.now c.in-Some.link.to t.0 t.2
 
@@ -27,7 +27,7 @@ number-to-requires g c =
     let at = c.loop-link in
     let steps : into_iter_items at.link-iterator ≡ c.in-Some.link ∷ into_iter_items c.next.new.self = c.in-Some.ensures.steps.0 in
     let now : c.args.links ≡ at.yielded ++ c.in-Some.link ∷ into_iter_items c.next.new.self =
-        sym c.into_vec-link-items.ensures ∙ sym c.into_iter-link-iterator.ensures.into_iter_gives.0 ∙ sym at.invariant.whole ∙ ap (λ x. at.yielded ++ x) steps in
+    sym c.into_vec-link-items.ensures ∙ sym c.into_iter-link-iterator.ensures.into_iter_gives.0 ∙ sym at.invariant.whole ∙ ap (λ x. at.yielded ++ x) steps in
     let t = c.requires (length at.yielded) c.in-Some.link (item_at c.args.links at.yielded (into_iter_items c.next.new.self) c.in-Some.link now) in
     (t.1, ap Rattle.path_search.specs.code.Visit.number_of (Rattle.std.proofs.lemmas.Option.same_Some c.at.result.now t.0 (sym c.at.ensures ∙ t.2)) ∙ t.3)
 

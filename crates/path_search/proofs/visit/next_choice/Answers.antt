@@ -19,8 +19,9 @@ overflow_add-top c =
     omega (arith, ap (λ (f : Frame). f.choice) e, c.requires.room t.0 t.1 t.2)
 
 pub returns : goal.returns
-returns c = record { next = λ lower top e.
-    let n : c.len-last.result - 1 ≡ length lower = omega (arith, c.len-last.ensures, ap length e, length_push lower top) in
-    let same : c.at-top.result.now ≡ top = is_last c.args.stack.now lower top c.at-top.result.now (c.len-last.result - 1) e (ap (λ n. n - 1) c.len-last.ensures) c.at-top.ensures in
-    c.set.ensures ∙ ap (λ f. set c.args.stack.now (c.len-last.result - 1) (next_frame f)) same ∙ ap (λ k. set c.args.stack.now k (next_frame top)) n ∙ ap (λ s. set s (length lower) (next_frame top)) e ∙ set_last lower top (next_frame top)
+returns c = record {
+  next = λ lower top e.
+      let n : c.len-last.result - 1 ≡ length lower = omega (arith, c.len-last.ensures, ap length e, length_push lower top) in
+      let same : c.at-top.result.now ≡ top = is_last c.args.stack.now lower top c.at-top.result.now (c.len-last.result - 1) e (ap (λ n. n - 1) c.len-last.ensures) c.at-top.ensures in
+      c.set.ensures ∙ ap (λ f. set c.args.stack.now (c.len-last.result - 1) (next_frame f)) same ∙ ap (λ k. set c.args.stack.now k (next_frame top)) n ∙ ap (λ s. set s (length lower) (next_frame top)) e ∙ set_last lower top (next_frame top);
 }

@@ -37,7 +37,7 @@ at-requires-2 g c =
     let v : IsVisit s table marks found (w.0 ++ top ∷ []) = subst (IsVisit s table marks found) w.1 c.requires.visit in
     let l = c.index-links-top.result in
     let link : slice_get f.links top.choice ≡ Some l = ap (λ x. slice_get x top.choice) (sym c.as_slice-links.ensures)
-        ∙ slice_get_read c.as_slice-links.result.now (length c.as_slice-links.result.now) top.choice c.index-links-top.result refl c.if-top-links.false c.index-links-top.is in
+    ∙ slice_get_read c.as_slice-links.result.now (length c.as_slice-links.result.now) top.choice c.index-links-top.result refl c.if-top-links.false c.index-links-top.is in
     let to = (here s (decided_by g.G.Node.PartialEq.eq g.met.G.Node.Eq.laws g.met.G.Node.Exact.exact) table marks found w.0 top v f c.at.ensures).links.to top.choice l link in
     omega (arith, ap (λ (x : Link g.row.G-Label.Denot). x.to) c.index-links-top.is, get_within table l.to to.0 to.2, v.size)
 
@@ -50,7 +50,7 @@ returns-then-is_seen-clause-reaches g c =
     let v : IsVisit s table marks found (w.0 ++ top ∷ []) = subst (IsVisit s table marks found) w.1 c.requires.visit in
     let l = c.index-links-top.result in
     let link : slice_get f.links top.choice ≡ Some l = ap (λ x. slice_get x top.choice) (sym c.as_slice-links.ensures)
-        ∙ slice_get_read c.as_slice-links.result.now (length c.as_slice-links.result.now) top.choice c.index-links-top.result refl c.if-top-links.false c.index-links-top.is in
+    ∙ slice_get_read c.as_slice-links.result.now (length c.as_slice-links.result.now) top.choice c.index-links-top.result refl c.if-top-links.false c.index-links-top.is in
     let mark : slice_get marks l.to ≡ Some c.at-2.result.now = ap (λ (x : Link g.row.G-Label.Denot). slice_get marks x.to) c.index-links-top.is ∙ c.at-2.ensures in
     subst (λ x. Reaches s table marks x (Rattle.std.proofs.Common.get_or c.as_slice-links.result.now c.at-top.result.now.choice c.index-links-top.result).to) (sym w.1)
     (subst (λ (x : Link g.row.G-Label.Denot). Reaches s table marks (w.0 ++ top ∷ []) x.to) c.index-links-top.is
@@ -78,7 +78,7 @@ returns g c =
     let v : IsVisit s table marks found (w.0 ++ top ∷ []) = subst (IsVisit s table marks found) w.1 c.requires.visit in
     let l = c.index-links-top.result in
     let link : slice_get f.links top.choice ≡ Some l = ap (λ x. slice_get x top.choice) (sym c.as_slice-links.ensures)
-        ∙ slice_get_read c.as_slice-links.result.now (length c.as_slice-links.result.now) top.choice c.index-links-top.result refl c.if-top-links.false c.index-links-top.is in
+    ∙ slice_get_read c.as_slice-links.result.now (length c.as_slice-links.result.now) top.choice c.index-links-top.result refl c.if-top-links.false c.index-links-top.is in
     let mark : slice_get marks l.to ≡ Some c.at-2.result.now = ap (λ (x : Link g.row.G-Label.Denot). slice_get marks x.to) c.index-links-top.is ∙ c.at-2.ensures in
     let e : c.next_choice.new.stack ≡ w.0 ++ next_frame top ∷ [] = c.next_choice.ensures.next w.0 top w.1 in
     record {

@@ -87,8 +87,8 @@ returns-clause-entered g c =
     let f : Found g.row.G-Data.Denot g.row.G-Label.Denot = record { index = c.args.index; item = c.in-Next.data; links = links } in
     let frame : Frame = record { number = c.len-number.result; choice = 0 } in
     let w : IsVisit s c.linked.new.table (set c.linked.new.marks c.args.index (Open (length found))) (found ++ f ∷ []) (stack ++ frame ∷ []) =
-        enters s table marks found stack v c.args.index r c.linked.new.table c.linked.new.marks grown links leads f frame (λ e. c.if-len-self.false (c.len.ensures ∙ e))
-        (λ k e. let x : Next (map target edges) ≡ Bad k = sym turn ∙ e in cc) straight refl refl c.in_ok-links.ensures.small c.len-number.ensures refl in
+    enters s table marks found stack v c.args.index r c.linked.new.table c.linked.new.marks grown links leads f frame (λ e. c.if-len-self.false (c.len.ensures ∙ e))
+    (λ k e. let x : Next (map target edges) ≡ Bad k = sym turn ∙ e in cc) straight refl refl c.in_ok-links.ensures.small c.len-number.ensures refl in
     subst (λ x. IsVisit s c.linked.new.table x c.push.new.self c.push-2.new.self) (sym marked)
     (subst (λ x. IsVisit s c.linked.new.table (set c.linked.new.marks c.args.index (Open (length found))) x c.push-2.new.self) (sym c.in_ok-push.ensures.ok)
     (subst (λ x. IsVisit s c.linked.new.table (set c.linked.new.marks c.args.index (Open (length found))) (found ++ f ∷ []) x) (sym c.in_ok-push-2.ensures.ok) w))
@@ -105,10 +105,10 @@ returns-clause-keeps g c =
     let Valid = g.G.Graph.IsValid c.args.self.now.graph.now in let Carries = g.G.Graph.Carries c.args.self.now.graph.now in
     let f : Found g.row.G-Data.Denot g.row.G-Label.Denot = record { index = c.args.index; item = c.in-Next.data; links = links } in
     let own : Carries r.at c.in-Next.data (map (λ (l : Link g.row.G-Label.Denot). l.label) links) =
-        subst (Carries r.at c.in-Next.data) (sym c.in_ok-links.ensures.links.labels) (subst (λ x. Carries x c.in-Next.data (map label edges)) (sym same)
-        (subst (λ st. IfNext st (λ d es. Carries c.at.result.now d (map label es))) c.in-Next.is c.in_ok-data.ensures.carries)) in
+    subst (Carries r.at c.in-Next.data) (sym c.in_ok-links.ensures.links.labels) (subst (λ x. Carries x c.in-Next.data (map label edges)) (sym same)
+    (subst (λ st. IfNext st (λ d es. Carries c.at.result.now d (map label es))) c.in-Next.is c.in_ok-data.ensures.carries)) in
     let next : (depth : ℕ) → Valid depth c.at.result.now → AllAt (Valid (depth + 1)) (map target edges) =
-        subst (λ st. IfNext st (λ d es. (depth : ℕ) → Valid depth c.at.result.now → AllAt (Valid (depth + 1)) (map target es))) c.in-Next.is c.in_ok-data.ensures.valid in
+    subst (λ st. IfNext st (λ d es. (depth : ℕ) → Valid depth c.at.result.now → AllAt (Valid (depth + 1)) (map target es))) c.in-Next.is c.in_ok-data.ensures.valid in
     subst (Keeps Valid Carries c.linked.new.table) (sym c.in_ok-push.ensures.ok)
     (keeps_more Valid Carries table c.linked.new.table found f r.at c.requires.keeps grown.kept (grown.kept c.args.index r.at r.here) own (map target edges) c.in_ok-links.ensures.links.among
     (let d = c.requires.keeps.valid c.args.index r.at r.here in (d.0, d.1, next d.0 (subst (Valid d.0) same d.2))))

@@ -1,1 +1,3 @@
+pub mod ClassLemmas
 pub mod Found
+pub mod StepLemmas

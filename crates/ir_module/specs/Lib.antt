@@ -1,5 +1,10 @@
+pub mod Classes
 pub mod Edges
+pub mod Entry
+pub mod Numbered
 pub mod Operands
 pub mod Places
+pub mod Printable
+pub mod Spots
 pub mod Steps
 pub mod Tree

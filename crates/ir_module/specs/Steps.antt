@@ -1,5 +1,5 @@
 -- What stands at a point of a function: phis first, then instructions, then the terminator.
-use Rattle.std.specs.Prelude.{ℕ, zero, suc, ◌+◌, ◌-◌, length, slice_get, Option, None, Some}
+use Rattle.std.specs.Prelude.{ℕ, zero, suc, ◌+◌, ◌-◌, List, [], ◌∷◌, ◌++◌, length, map, flat_map, slice_get, Option, None, Some}
 use Rattle.ir_module.specs.declared.places.Point.{Point}
 use Rattle.ir_module.specs.declared.tree.Block.{Block}
 use Rattle.ir_module.specs.declared.tree.Function.{Function}
@@ -7,7 +7,7 @@ use Rattle.ir_module.specs.declared.tree.Inst.{Inst}
 use Rattle.ir_module.specs.declared.tree.Module.{Module}
 use Rattle.ir_module.specs.declared.tree.Phi.{Phi}
 use Rattle.ir_module.specs.declared.tree.Term.{Term}
-use Rattle.ir_module.specs.Tree.{block_at}
+use Rattle.ir_module.specs.Tree.{block_at, blocks_of}
 
 pub data Step : Type 0 where
   PhiAt : Phi → Step
@@ -15,11 +15,11 @@ pub data Step : Type 0 where
   TermAt : Term → Step
   NoStep : Step
 
-abbrev from_option : {A : Type 0} → Option A → (A → Step) → Step → Step
+abbrev pub from_option : {A : Type 0} → Option A → (A → Step) → Step → Step
 from_option None f s = s
 from_option (Some x) f s = f x
 
-abbrev at_end : Term → ℕ → Step
+abbrev pub at_end : Term → ℕ → Step
 at_end t zero = TermAt t
 at_end t (suc n) = NoStep
 
@@ -27,7 +27,7 @@ abbrev pub step_at : Block → ℕ → Step
 step_at b i = from_option (slice_get b.phis i) PhiAt
     (from_option (slice_get b.insts (i - length b.phis)) InstAt (at_end b.term (i - (length b.phis + length b.insts))))
 
-abbrev step_in : Option Block → ℕ → Step
+abbrev pub step_in : Option Block → ℕ → Step
 step_in None i = NoStep
 step_in (Some b) i = step_at b i
 
@@ -40,3 +40,11 @@ step_in_function (Some f) p = step_of_point f p
 
 abbrev pub step_in_module : Module → Point → Step
 step_in_module m p = step_in_function (slice_get m.funcs p.func.0) p
+
+-- the steps of a block in order
+abbrev pub steps_of_block : Block → List Step
+steps_of_block b = map PhiAt b.phis ++ (map InstAt b.insts ++ (TermAt b.term ∷ []))
+
+-- the steps of a function in text order
+abbrev pub steps_of : Function → List Step
+steps_of f = flat_map steps_of_block (blocks_of f)

@@ -2,6 +2,7 @@
 #![tactic(auto)]
 
 mod edges;
+mod function;
 mod places;
 mod tree;
 

@@ -1,5 +1,6 @@
 use super::*;
-use ir_values::{BlockId, Bytes, Copies, FuncId, Int, Name, Seq, Ty, Value, Width};
+use ir_values::{BlockId, Bytes, Copies, FuncId, Int, Memory, Name, Seq, Ty, Value, Width};
+use std::alloc::Global;
 use std::test::Fail;
 
 #[test]
@@ -72,4 +73,53 @@ fn places_are_found_by_their_spots(rt: HostRuntime) -> Result<(), Fail> {
     assert_eq!(rt; places.of(Spot::At(point)), place(9, 3));
     assert_eq!(rt; places.of(Spot::At(next)), place(10, 3));
     Ok(())
+}
+
+#[test]
+fn the_first_entry_has_the_first_of_equal_attributes(rt: HostRuntime) -> Result<(), Fail> {
+    let alloc = rt.alloc();
+    let mut attrs = Attrs::new(alloc);
+    for (key, value) in [
+        ("entry_point", None),
+        ("profile", Some("base")),
+        ("profile", Some("x")),
+    ] {
+        attrs.push(Attr {
+            key: Seq::from_slice(alloc, key.as_bytes())?,
+            value: match value {
+                Some(text) => Some(Seq::from_slice(alloc, text.as_bytes())?),
+                None => None,
+            },
+        })?;
+    }
+    let mut funcs = Functions::new(alloc);
+    funcs.push(declared(alloc, attrs.copy(alloc)?)?)?;
+    let mut main = declared(alloc, attrs)?;
+    main.blocks = Some(Blocks::new(alloc));
+    funcs.push(main)?;
+    let module = Module {
+        globals: Seq::new(alloc),
+        funcs,
+        flags: Seq::new(alloc),
+    };
+    let entry = module.entry().ok_or("an entry")?;
+    assert_eq!(rt; entry, FuncId(1));
+    let main = module.funcs.as_slice().get(1).ok_or("a function")?;
+    let profile = main.attribute(b"profile").ok_or("an attribute")?;
+    let value = profile.value.as_ref().ok_or("a value")?;
+    assert_eq!(rt; value.as_slice(), b"base".as_slice());
+    assert!(rt; main.class(alloc)?.is_none());
+    assert_eq!(rt; main.signature(alloc)?.words().len(), 2);
+    Ok(())
+}
+
+fn declared(alloc: Global, attrs: Attrs) -> Result<Function, Memory> {
+    Ok(Function {
+        name: Name::Text(Bytes::new(alloc)),
+        ret: Ty::Void,
+        params: 0,
+        locals: Locals::new(alloc),
+        attrs,
+        blocks: None,
+    })
 }

@@ -1,8 +1,6 @@
 //! The tree of a module (LLVM Language Reference, 'High Level Structure'). It holds no places.
-ghost use Rattle.std.specs.Prelude.{◌≡◌, ◌<◌, length, slice_get, IsSome};
 ghost use Rattle.std.proofs.Common.{rules};
 ghost use Rattle.ir_values.specs.Equal.{equal_decides};
-ghost use Rattle.ir_module.specs.Tree.{block_at};
 
 use ir_values::{
     BinOp, BlockId, Bytes, Conv, Copies, Exact, Flags, FuncId, Int, LocalId, Memory, Name, Pred,
@@ -106,7 +104,7 @@ impl Copies for Function {
 }
 
 /// A string attribute, `"key"` or `"key"="value"` (LLVM Language Reference, 'Attribute Groups').
-#[derive(Debug, Drop, PartialEq, Eq)]
+#[derive(Debug, Drop, PartialEq, Eq, Hash)]
 pub struct Attr {
     pub key: Bytes,
     pub value: Option<Bytes>,
@@ -342,27 +340,4 @@ impl Copies for Operand {
 
 impl Exact for Operand {
     ghost exact = { Prim.search (rules, equal_decides) };
-}
-
-impl Module {
-    /// The function of this number, which is in range. It takes no memory.
-    pub fn function(&self, f: FuncId) -> &Function
-        requires { f.0 < length self.now.funcs }
-        ensures { slice_get self.now.funcs f.0 ≡ Some result.now }
-    {
-        self.funcs.at(f.0 as usize)
-    }
-}
-
-impl Function {
-    /// The block of this number, which is in range, of a function with a body. It takes no memory.
-    pub fn block(&self, b: BlockId) -> &Block
-        requires { IsSome (block_at self.now b) }
-        ensures { block_at self.now b ≡ Some result.now }
-    {
-        match &self.blocks {
-            Some(blocks) => blocks.at(b.0 as usize),
-            None => unreachable!(),
-        }
-    }
 }

@@ -11,12 +11,13 @@ use Rattle.ir_module.specs.declared.tree.Function.{Function}
 use Rattle.ir_module.specs.Edges.{edges}
 use Rattle.ir_module.specs.Steps.{Step, TermAt, NoStep, step_at, step_of_point}
 use Rattle.name_flow.specs.declared.flow.Flow.{Flow}
-use Rattle.name_flow.specs.Built.{AreEnds, IsBuiltFrom}
-use Rattle.name_flow.specs.Marks.{gather, block_used, block_defined, block_edges, block_phis_used, end_index, ends_used}
-use Rattle.name_flow.specs.Spread.{Pair, IsWanted, used_here, used_later, IsWantedAfter}
+use Rattle.name_flow.specs.code.Built.{AreEnds, IsBuiltFrom}
+use Rattle.name_flow.specs.code.Marks.{gather, block_used, block_defined, block_edges, block_phis_used, end_index, ends_used}
+use Rattle.name_flow.specs.code.Spread.{Pair, IsWanted, used_here, used_later, IsWantedAfter}
 use Rattle.name_flow.specs.Tables.{live, IsFlowOf}
-use Rattle.name_flow.specs.Triples.{Triple, next, is_first, Sorts}
-use Rattle.name_flow.specs.Uses.{step_reads, step_defines}
+use Rattle.name_flow.specs.code.Triples.{Triple, next, is_first, Sorts}
+use Rattle.ir_module.specs.Operands.{step_defines}
+use Rattle.name_flow.specs.Uses.{step_reads}
 use Rattle.name_flow.specs.Walks.{successors, first_point, IsWalk, ReadsFirst, IsLive}
 use Rattle.name_flow.proofs.Marked.{name, block_id, At, at_phi, at_inst, at_term, at_none, at, get-below, StepHas, defined-from, defined-has, edge-from, edge-holds, used-from, used-has, EndMark, ends-from, ends-has, some-block, step-term-at}
 use Rattle.name_flow.proofs.Members.{none, here, cases, Contains-map, FromMap, map-cases}

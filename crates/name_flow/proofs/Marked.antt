@@ -14,10 +14,11 @@ use Rattle.ir_module.specs.declared.tree.Phi.{Phi}
 use Rattle.ir_module.specs.Edges.{edges}
 use Rattle.ir_module.specs.Steps.{Step, PhiAt, InstAt, TermAt, NoStep, step_at}
 use Rattle.ir_module.specs.Tree.{block_at}
-use Rattle.name_flow.specs.Marks.{gather, marks, inst_used, inst_defined, phi_defined, end_index, block_used, block_defined, block_edges, entry_used_at, entry_used, entries_used, phis_used, block_phis_used, end_used_at, ends_used}
-use Rattle.name_flow.specs.Spread.{Pair, IsNarrow}
-use Rattle.name_flow.specs.Triples.{Triple, holds, Sorts}
-use Rattle.name_flow.specs.Uses.{reads, inst_reads, term_reads, entries_read, phis_read, step_reads, step_defines}
+use Rattle.name_flow.specs.code.Marks.{gather, marks, inst_used, inst_defined, phi_defined, end_index, block_used, block_defined, block_edges, entry_used_at, entry_used, entries_used, phis_used, block_phis_used, end_used_at, ends_used}
+use Rattle.name_flow.specs.code.Spread.{Pair, IsNarrow}
+use Rattle.name_flow.specs.code.Triples.{Triple, holds, Sorts}
+use Rattle.ir_module.specs.Operands.{step_defines}
+use Rattle.name_flow.specs.Uses.{reads, inst_reads, term_reads, entries_read, phis_read, step_reads}
 use Rattle.name_flow.proofs.Members.{none, here, there, cases, Contains-map, FromMap, map-cases, Gathered, gather-cases, Contains-gather}
 use Rattle.name_flow.proofs.Order.{holds-contains, contains-holds}
 

@@ -1,7 +1,7 @@
 -- What stands in lists that are put together.
 use Rattle.std.proofs.Common.{◌≡◌, zero, suc, ◌⊎◌, ℕ, ◌+◌, List, [], ◌∷◌, ◌++◌, take, map, Some, refl, sym, ap, arith, add-one, inl, inr, Contains, slice_get, subst}
 use Rattle.std.proofs.lemmas.List.Elements.{Contains-append_left, Contains-append_right, Contains-append_cases}
-use Rattle.name_flow.specs.Marks.{gather}
+use Rattle.name_flow.specs.code.Marks.{gather}
 
 pub here : {A : Type 0} (y : A) (ys : List A) → Contains (y ∷ ys) y
 here y ys = (zero, omega arith, refl)

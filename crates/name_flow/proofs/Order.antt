@@ -8,7 +8,7 @@ use Rattle.std.specs.declared.cmp.Ordering.TheVariants.{Less, Equal, Greater}
 use Rattle.std.specs.List.Sorted.{IsPartitionPoint, IsPartitionedBy}
 use Rattle.std.proofs.lemmas.List.Sorted.{sorted_far, ranks_by, searchable_from_sorted, IsPartitionedBy-ltb}
 use Rattle.std.proofs.lemmas.Bool.Decides.{nat_tests}
-use Rattle.name_flow.specs.Triples.{Triple, triple_cmp, is_below, is_from, next, holds, is_number, NextHolds, Ascends}
+use Rattle.name_flow.specs.code.Triples.{Triple, triple_cmp, is_below, is_from, next, holds, is_number, NextHolds, Ascends}
 
 pub triple_total : IsTotalOrder triple_cmp
 triple_total = then_total (then_total (on_total (λ (t : Triple). t.0) nat_cmp_total) (on_total (λ (t : Triple). t.1) nat_cmp_total)) (on_total (λ (t : Triple). t.2) nat_cmp_total)

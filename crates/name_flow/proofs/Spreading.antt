@@ -5,10 +5,10 @@ use Rattle.std.proofs.lemmas.Map.Views.{Contains-from_any}
 use Rattle.std.proofs.lemmas.Bool.Decides.{nat_tests}
 use Rattle.std.proofs.lemmas.Grind.{common_steps}
 use Rattle.std.proofs.lemmas.List.Elements.{Contains-append_left, Contains-push, Contains-push_cases}
-use Rattle.name_flow.specs.Spread.{Pair, Adds, Grew, IsWanted, used_here, used_later, IsWantedAfter, IsSpread, AreEntered, IsFirstUse, Seeds, IsSeeded, GrewAt, AddsEnd, EntersWhere, Enters}
-use Rattle.name_flow.specs.Built.{AreEnds}
+use Rattle.name_flow.specs.code.Spread.{Pair, Adds, Grew, IsWanted, used_here, used_later, IsWantedAfter, IsSpread, AreEntered, IsFirstUse, Seeds, IsSeeded, GrewAt, AddsEnd, EntersWhere, Enters}
+use Rattle.name_flow.specs.code.Built.{AreEnds}
 use Rattle.name_flow.proofs.Members.{none, here, there, cases}
-use Rattle.name_flow.specs.Triples.{Triple, next, holds, is_first, NextHolds}
+use Rattle.name_flow.specs.code.Triples.{Triple, next, holds, is_first, NextHolds}
 
 abbrev pub same_pair : Pair → Pair → Bool
 same_pair p q = nat_eq p.0 q.0 && nat_eq p.1 q.1

@@ -6,7 +6,7 @@ use Rattle.ir_module.specs.declared.places.Point.{Point}
 use Rattle.ir_module.specs.declared.tree.Function.{Function}
 use Rattle.ir_module.specs.declared.tree.Module.{Module}
 use Rattle.name_flow.specs.declared.flow.Flow.{Flow}
-use Rattle.name_flow.specs.Triples.{next, is_first}
+use Rattle.name_flow.specs.code.Triples.{next, is_first}
 use Rattle.name_flow.specs.Walks.{IsLive}
 
 -- the answer of the flow at p: its next use of x in the block stands at or before its next definition

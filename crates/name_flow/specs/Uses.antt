@@ -42,9 +42,3 @@ step_reads f p (PhiAt phi) = []
 step_reads f p (InstAt i) = inst_reads i.what
 step_reads f p (TermAt t) = term_reads t ++ flat_map (λ b. phis_read p (block_at f b)) (edges t)
 step_reads f p NoStep = []
-
-abbrev pub step_defines : Step → List LocalId
-step_defines (PhiAt phi) = phi.result ∷ []
-step_defines (InstAt i) = option_to_list i.result
-step_defines (TermAt t) = []
-step_defines NoStep = []

@@ -6,7 +6,8 @@ use Rattle.ir_module.specs.declared.places.Point.{Point}
 use Rattle.ir_module.specs.declared.tree.Function.{Function}
 use Rattle.ir_module.specs.Edges.{edges}
 use Rattle.ir_module.specs.Steps.{Step, PhiAt, InstAt, TermAt, NoStep, step_of_point}
-use Rattle.name_flow.specs.Uses.{step_reads, step_defines}
+use Rattle.ir_module.specs.Operands.{step_defines}
+use Rattle.name_flow.specs.Uses.{step_reads}
 
 -- the first point of a block
 abbrev pub first_point : Point → BlockId → Point

@@ -1,9 +1,9 @@
 //! The flow of a function's local names.
 ghost use Rattle.std.specs.Prelude.{◌≡◌, ◌++◌, slice_get, IfOk, IfSome};
-ghost use Rattle.name_flow.specs.Built.{IsBuiltFrom};
-ghost use Rattle.name_flow.specs.Marks.{gather, block_used, block_defined, block_edges, block_phis_used};
-ghost use Rattle.name_flow.specs.Spread.{IsNarrow};
-ghost use Rattle.name_flow.specs.Triples.{Sorts};
+ghost use Rattle.name_flow.specs.code.Built.{IsBuiltFrom};
+ghost use Rattle.name_flow.specs.code.Marks.{gather, block_used, block_defined, block_edges, block_phis_used};
+ghost use Rattle.name_flow.specs.code.Spread.{IsNarrow};
+ghost use Rattle.name_flow.specs.code.Triples.{Sorts};
 ghost use Rattle.name_flow.specs.Tables.{live, IsFlowOf, HasBody};
 
 use crate::marks::{Marks, push_definitions, push_edges, push_end_uses, push_phi_uses, push_uses};

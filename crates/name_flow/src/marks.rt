@@ -1,7 +1,7 @@
 //! The uses and the definitions of local names in a function, and its edges.
 ghost use Rattle.std.specs.Prelude.{◌≡◌, ◌+◌, ◌^◌, ◌<◌, ◌++◌, length, slice_get, OnOk, option_copied, flat_map, map};
 ghost use Rattle.ir_module.specs.Operands.{callee_operand};
-ghost use Rattle.name_flow.specs.Marks as spec;
+ghost use Rattle.name_flow.specs.code.Marks as spec;
 ghost use Rattle.name_flow.specs.Uses.{reads, inst_reads, term_reads};
 
 use crate::triples::Triples;

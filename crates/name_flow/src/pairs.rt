@@ -1,6 +1,6 @@
 //! Sets of pairs in the order in which they were added.
 ghost use Rattle.std.specs.Prelude.{◌≡◌, ◌<◌, [], Some, length, slice_get, OnOk};
-ghost use Rattle.name_flow.specs.Spread.{Adds};
+ghost use Rattle.name_flow.specs.code.Spread.{Adds};
 
 use indexmap::IndexSet;
 use ir_values::Memory;

@@ -1,7 +1,7 @@
 //! The names that are wanted at the starts and at the ends of blocks.
 ghost use Rattle.std.specs.Prelude.{◌≡◌, ◌<◌, length, slice_get, OnOk, IfOk};
-ghost use Rattle.name_flow.specs.Built.{AreEnds};
-ghost use Rattle.name_flow.specs.Spread as spec;
+ghost use Rattle.name_flow.specs.code.Built.{AreEnds};
+ghost use Rattle.name_flow.specs.code.Spread as spec;
 
 use crate::pairs::Pairs;
 use crate::triples::Triples;

@@ -1,7 +1,7 @@
 //! Numbers that are looked up by two others, in a sorted list.
 ghost use Rattle.std.specs.Prelude.{◌≡◌, ◌≤◌, true, false, length};
 ghost use Rattle.std.specs.List.Sorted.{IsPartitionPoint};
-ghost use Rattle.name_flow.specs.Triples.{next, holds, is_below, Ascends, NextHolds, Sorts};
+ghost use Rattle.name_flow.specs.code.Triples.{next, holds, is_below, Ascends, NextHolds, Sorts};
 
 use std::marker::Model;
 
@@ -16,7 +16,7 @@ impl Model for Triples {
 
     ghost Value = { List (ℕ × ℕ × ℕ) };
 
-    ghost use Rattle.name_flow.specs.Triples.{Ascends};
+    ghost use Rattle.name_flow.specs.code.Triples.{Ascends};
 
     ghost view = { λ t. t.items.items };
 

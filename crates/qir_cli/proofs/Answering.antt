@@ -14,7 +14,8 @@ use Rattle.qir_meaning.specs.Same.{SameBehaviour}
 use Rattle.qir_cli.specs.declared.reply.Reply.{Reply}
 use Rattle.qir_cli.specs.declared.status.Status.{Status}
 use Rattle.qir_cli.specs.declared.status.Status.TheVariants.{Refused}
-use Rattle.qir_cli.specs.Answers.{limit, instructions, refusal_line, other_text_line, ReadsAs, AlwaysRuns, LowerAnswer, other_text, over_budget, lowered}
+use Rattle.qir_meaning.specs.Runs.{AlwaysRuns}
+use Rattle.qir_cli.specs.Answers.{limit, instructions, refusal_line, other_text_line, ReadsAs, LowerAnswer, other_text, over_budget, lowered}
 use Rattle.qir_cli.specs.BaseTree.{base_tree, naming_of}
 use Rattle.qir_cli.specs.Budget.{FitsBudget, within, over}
 use Rattle.qir_cli.proofs.BaseBehaviour.{base_tree-SameBehaviour, base_tree-HasRun, tree_of-KeepsApart}

@@ -24,12 +24,12 @@ use Rattle.ir_values.specs.declared.name.Name.{Name}
 use Rattle.ir_values.specs.declared.name.Name.TheVariants as name
 use Rattle.ir_values.specs.declared.value.Value.{Value}
 use Rattle.ir_values.specs.declared.value.Value.TheVariants as value
-use Rattle.qir_meaning.specs.Entry.{entry_of}
-use Rattle.qir_meaning.specs.Laws.{HasRun}
+use Rattle.ir_module.specs.Entry.{entry_of}
+use Rattle.qir_meaning.specs.Runs.{HasRun}
 use Rattle.qir_meaning.specs.Moves.{move, step_move, does}
 use Rattle.qir_meaning.specs.Same.{SameBehaviour}
 use Rattle.qir_meaning.specs.Runs.{RunEnd, Runs}
-use Rattle.qir_meaning.specs.Simulation.{On, run, tick, whole_start, Started, Simulation}
+use Rattle.qir_meaning.specs.code.Simulation.{On, run, tick, whole_start, Started, Simulation}
 use Rattle.qir_meaning.specs.Apart.{KeepsApart, QubitBelow, ResultBelow, StaysBelow, qubits_of_run, results_of_run}
 use Rattle.qir_meaning.specs.Naming.{fixed_naming}
 use Rattle.qir_meaning.proofs.Apart.{keeps-apart}

@@ -24,9 +24,9 @@ use Rattle.ir_values.specs.declared.value.Value.TheVariants as value
 use Rattle.qir_meaning.specs.Apart.{QubitBelow, qubits_of_run, results_of_run}
 use Rattle.qir_meaning.specs.Effects.{gate, operation}
 use Rattle.ir_values.specs.Names.{name_text}
-use Rattle.qir_meaning.specs.Simulation.{Whole, Tick, run, tick, tick_of}
+use Rattle.qir_meaning.specs.code.Simulation.{Whole, Tick, run, tick, tick_of}
 use Rattle.qir_meaning.specs.State.{Env}
-use Rattle.qir_meaning.specs.Steps.{Outcome, Ended, Jam}
+use Rattle.qir_meaning.specs.code.Steps.{Outcome, Ended, Jam}
 use Rattle.qir_meaning.proofs.Grow.{goes, run-suc, run-zero}
 use Rattle.qir_cli.proofs.Moves.{at, AllFit, apply, cnot, qubit_ref, refs}
 use Rattle.qir_cli.proofs.Scopes.{but}

@@ -22,13 +22,14 @@ use Rattle.ir_values.specs.declared.ids.FuncId.{FuncId}
 use Rattle.ir_values.specs.declared.value.Value.TheVariants as value
 use Rattle.qir_meaning.specs.Effects.{gate, operation}
 use Rattle.ir_values.specs.Names.{name_text}
-use Rattle.qir_meaning.specs.Moves.{move, does, class_of_function}
+use Rattle.ir_module.specs.Classes.{class_of_function}
+use Rattle.qir_meaning.specs.Moves.{move, does}
 use Rattle.backend_api.specs.Naming.{Naming, named_op, named_event, named_events}
 use Rattle.qir_meaning.specs.Naming.{fixed_naming}
 use Rattle.qir_meaning.specs.Runs.{Asks}
-use Rattle.qir_meaning.specs.Simulation.{Whole, Tick, On, Off, tick, tick_of, Meets, Follows}
+use Rattle.qir_meaning.specs.code.Simulation.{Whole, Tick, On, Off, tick, tick_of, Meets, Follows}
 use Rattle.qir_meaning.specs.State.{Env, State, Next, Back}
-use Rattle.qir_meaning.specs.Steps.{Ended}
+use Rattle.qir_meaning.specs.code.Steps.{Ended}
 use Rattle.qir_cli.specs.BaseGates.{GateCall}
 use Rattle.qir_cli.specs.BaseTree.{lowered_gate, number_among}
 use Rattle.qir_cli.proofs.Gates.{gates, gate_call, AllFound}

@@ -35,7 +35,8 @@ use Rattle.ir_values.specs.declared.value.Value.TheVariants as value
 use Rattle.ir_values.specs.Calls.{class_of, rt, qis}
 use Rattle.qir_meaning.specs.Effects.{argument, arguments, declared_call}
 use Rattle.ir_values.specs.Names.{name_text}
-use Rattle.qir_meaning.specs.Moves.{does, performs, declared, with_body, calls, with_values, class_of_function}
+use Rattle.ir_module.specs.Classes.{class_of_function}
+use Rattle.qir_meaning.specs.Moves.{does, performs, declared, with_body, calls, with_values}
 use Rattle.backend_api.specs.Naming.{named_arg}
 use Rattle.qir_meaning.specs.Naming.{fixed_naming}
 use Rattle.qir_meaning.specs.State.{Env, State, Move, value_of, values_of, one_more}

@@ -20,8 +20,9 @@ use Rattle.ir_values.specs.declared.ids.FuncId.{FuncId}
 use Rattle.ir_values.specs.declared.value.Value.TheVariants as value
 use Rattle.qir_meaning.specs.Effects.{gate, operation}
 use Rattle.ir_values.specs.Names.{name_text}
-use Rattle.qir_meaning.specs.Moves.{move, does, class_of_function}
-use Rattle.qir_meaning.specs.Simulation.{Whole, On, tick, tick_of}
+use Rattle.ir_module.specs.Classes.{class_of_function}
+use Rattle.qir_meaning.specs.Moves.{move, does}
+use Rattle.qir_meaning.specs.code.Simulation.{Whole, On, tick, tick_of}
 use Rattle.qir_meaning.specs.State.{Env, State, Move, Next, Back, Halt, Trap, next, one_more}
 use Rattle.qir_cli.proofs.Moves.{at, Holds, allocate, release, apply, cnot, class-allocate, class-release, class-apply, class-cnot, apply-blocks, declared-move, AllFit, pairs, refs, qubit_value, qubits-have, qubits-pass}
 use Rattle.qir_cli.proofs.Scopes.{and-left, and-right, AreHeld, Allocated, allocated-value, allocated-next, allocated-held, released-held, released-length, usable-number, usable-held, holds, but}

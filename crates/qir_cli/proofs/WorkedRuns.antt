@@ -11,11 +11,11 @@ use Rattle.backend_api.specs.declared.operation.QubitRef.{QubitRef}
 use Rattle.backend_api.specs.declared.operation.QubitRef.TheVariants as qubit
 use Rattle.ir_reader.specs.FirstTree.{tree_of}
 use Rattle.ir_values.specs.Calls.{class_of}
-use Rattle.qir_meaning.specs.Entry.{entry_of}
+use Rattle.ir_module.specs.Entry.{entry_of}
 use Rattle.qir_meaning.specs.Moves.{move}
 use Rattle.qir_meaning.specs.Runs.{Returned, Asks, Cut}
 use Rattle.qir_meaning.specs.State.{State}
-use Rattle.qir_meaning.specs.Steps.{Ended, exec, run_by_steps}
+use Rattle.qir_meaning.specs.code.Steps.{Ended, exec, run_by_steps}
 use Rattle.qir_cli.specs.BaseTree.{base_tree}
 use Rattle.qir_cli.proofs.Worked.{two_allocations}
 

@@ -1,6 +1,5 @@
 -- The answer of a command to an input: a status, and the text that is written.
 use Rattle.std.specs.Prelude.{◌≡◌, ℕ, ◌+◌, ◌<◌, ◌≤◌, List, ◌++◌, length, codes, decimal}
-use Rattle.backend_api.specs.declared.operation.Answer.{Answer as MachineAnswer}
 use Rattle.ir_module.specs.declared.tree.Module.{Module}
 use Rattle.qir_cli.specs.declared.command.Command.{Command}
 use Rattle.qir_cli.specs.declared.command.Command.TheVariants.{LowerBase}
@@ -8,7 +7,7 @@ use Rattle.qir_cli.specs.declared.status.Status.{Status}
 use Rattle.qir_cli.specs.declared.status.Status.TheVariants as status
 use Rattle.ir_reader.specs.First.{First}
 use Rattle.qir_meaning.specs.Apart.{KeepsApart}
-use Rattle.qir_meaning.specs.Laws.{HasRun}
+use Rattle.qir_meaning.specs.Runs.{AlwaysRuns}
 use Rattle.qir_meaning.specs.Same.{SameBehaviour}
 use Rattle.qir_cli.specs.BaseGates.{block_insts}
 use Rattle.qir_cli.specs.BaseText.{base_text}
@@ -41,10 +40,6 @@ instructions m = length (block_insts m) + 1
 pub record ReadsAs (m : Module) (bytes : List ℕ) : Type 0 where
   pub first : First m bytes
   pub only : (other : Module) → First other bytes → other ≡ m
-
--- a run for every list of answers and every bound of steps
-abbrev pub AlwaysRuns : Module → Type 0
-AlwaysRuns m = (answers : List MachineAnswer) (n : ℕ) → HasRun m answers n
 
 -- `lower base` with a budget: the first that fits
 pub data LowerAnswer (budget : ℕ) (bytes : List ℕ) : Status → List ℕ → Type 0 where

@@ -11,7 +11,7 @@ ghost use Rattle.qir_cli.specs.BaseText as spec_text;
 use crate::text::push_number;
 use indexmap::IndexSet;
 use ir_module::{Attr, Callee, Function, Inst, InstKind, Module, Operand};
-use ir_values::{Bytes, Memory, Name, Ty, Value};
+use ir_values::{Bytes, Memory, Name, Ty, Value, parse_decimal};
 use std::alloc::Global;
 
 /// How the names of quantum instructions begin.

@@ -7,14 +7,14 @@ use Rattle.backend_api.specs.declared.operation.Answer.{Answer}
 use Rattle.backend_api.specs.declared.operation.Event.{Event}
 use Rattle.ir_module.specs.declared.tree.Module.{Module}
 use Rattle.output_records.specs.declared.record.Record.{Record}
-use Rattle.qir_meaning.specs.Laws.{HasRun}
+use Rattle.qir_meaning.specs.Runs.{HasRun}
 use Rattle.backend_api.specs.Naming.{Naming, named_events}
 use Rattle.qir_meaning.specs.Naming.{named_end}
 use Rattle.qir_meaning.specs.Runs.{RunEnd, Cut, Runs}
 use Rattle.qir_meaning.specs.Same.{Prefix, SameBehaviour}
-use Rattle.qir_meaning.specs.Simulation.{Whole, Tick, On, Off, tick, run, whole_start, GoesBy, Alike, EndsBy, Meets, Follows, Started, Simulation}
+use Rattle.qir_meaning.specs.code.Simulation.{Whole, Tick, On, Off, tick, run, whole_start, GoesBy, Alike, EndsBy, Meets, Follows, Started, Simulation}
 use Rattle.qir_meaning.specs.State.{State}
-use Rattle.qir_meaning.specs.Steps.{Outcome, Ended, Jam}
+use Rattle.qir_meaning.specs.code.Steps.{Outcome, Ended, Jam}
 use Rattle.qir_meaning.proofs.Bounds.{EndsSo, run-from, runs-from, cut-or-over, over-of, prefix-at}
 use Rattle.qir_meaning.proofs.Grow.{Grows, OutGrows, IsOver, IsOverEnd, goes, run-suc, run-zero, run-grows, later-grows, longer, off-over, same-ends}
 

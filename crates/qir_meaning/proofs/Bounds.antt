@@ -5,12 +5,12 @@ use Rattle.backend_api.specs.declared.operation.Answer.{Answer}
 use Rattle.backend_api.specs.declared.operation.Event.{Event}
 use Rattle.ir_module.specs.declared.tree.Module.{Module}
 use Rattle.output_records.specs.declared.record.Record.{Record}
-use Rattle.qir_meaning.specs.Entry.{Entry, entry_of}
+use Rattle.ir_module.specs.Entry.{Entry, entry_of}
 use Rattle.qir_meaning.specs.Runs.{RunEnd, Returned, Trapped, Asks, Cut, Runs}
 use Rattle.qir_meaning.specs.Same.{Prefix}
-use Rattle.qir_meaning.specs.Simulation.{run, whole_start}
+use Rattle.qir_meaning.specs.code.Simulation.{run, whole_start}
 use Rattle.qir_meaning.specs.State.{State}
-use Rattle.qir_meaning.specs.Steps.{Outcome, Ended, Jam, run_by_steps, Finished}
+use Rattle.qir_meaning.specs.code.Steps.{Outcome, Ended, Jam, run_by_steps, Finished}
 use Rattle.qir_meaning.proofs.Forms.{run-by-steps-is, runs-steps, steps-runs}
 use Rattle.qir_meaning.proofs.Grow.{IsOverEnd, longer, later-grows, OutGrows}
 

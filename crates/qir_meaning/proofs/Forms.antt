@@ -9,11 +9,11 @@ use Rattle.ir_values.specs.declared.ids.LocalId.{LocalId}
 use Rattle.ir_values.specs.declared.value.Value.{Value}
 use Rattle.ir_values.specs.declared.value.Value.TheVariants as value
 use Rattle.output_records.specs.declared.record.Record.{Record}
-use Rattle.qir_meaning.specs.Entry.{Entry, entry_of}
+use Rattle.ir_module.specs.Entry.{Entry, entry_of}
 use Rattle.qir_meaning.specs.Moves.{move, first_point}
 use Rattle.qir_meaning.specs.Runs.{RunEnd, Cut, end_of, Result, Gave, Over, bind_result, Body, cut, halts, back, next_point, calls, ends_in, Ends, start, Runs}
 use Rattle.qir_meaning.specs.State.{Env, State, Move, Next, Enter, Back, Halt, Stuck, next, frame}
-use Rattle.qir_meaning.specs.Steps.{Waiting, Outcome, Ended, Jam, returned, resume, turn, exec, run_by_steps, Finished}
+use Rattle.qir_meaning.specs.code.Steps.{Waiting, Outcome, Ended, Jam, returned, resume, turn, exec, run_by_steps, Finished}
 
 -- A third form, by fuel: k bounds how deep the calls of the definition go, and k = n is enough, since each takes a step.
 data Found : Type 0 where

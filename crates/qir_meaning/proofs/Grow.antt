@@ -35,12 +35,13 @@ use Rattle.output_records.specs.declared.record.Shown.{Shown}
 use Rattle.qir_meaning.specs.Effects.{argument, arguments, known_bit, reading, label_of, releases, gate, measure, measure_into, recorded, declared_call, operation, first_result, is_one}
 use Rattle.ir_module.specs.Operands.{operands_of}
 use Rattle.ir_values.specs.Names.{name_text}
-use Rattle.qir_meaning.specs.Moves.{with_value, with_values, with_int, move, step_move, does, computes, performs, declared, with_body, calls, ends, arrives, leads_to, jump, phis_take, block_in, target_of, class_of_function}
+use Rattle.ir_module.specs.Classes.{class_of_function}
+use Rattle.qir_meaning.specs.Moves.{with_value, with_values, with_int, move, step_move, does, computes, performs, declared, with_body, calls, ends, arrives, leads_to, jump, phis_take, block_in, target_of}
 use Rattle.qir_meaning.specs.Runs.{RunEnd, Returned, Trapped, Asks, Cut, end_of}
 use Rattle.qir_meaning.specs.Same.{Prefix}
-use Rattle.qir_meaning.specs.Simulation.{Whole, Tick, On, Off, gives_back, tick_of, tick, run}
+use Rattle.qir_meaning.specs.code.Simulation.{Whole, Tick, On, Off, gives_back, tick_of, tick, run}
 use Rattle.qir_meaning.specs.State.{Env, State, Stop, Trap, Ask, Move, Next, Enter, Back, Halt, Stuck, value_of, values_of, is_held, bit_of, with_event, with_bit}
-use Rattle.qir_meaning.specs.Steps.{Waiting, Outcome, Ended, Jam, returned, resume, turn, exec}
+use Rattle.qir_meaning.specs.code.Steps.{Waiting, Outcome, Ended, Jam, returned, resume, turn, exec}
 
 pub prefix-refl : {A : Type 0} (xs : List A) → Prefix xs xs
 prefix-refl xs = ([], sym (append-nil xs))

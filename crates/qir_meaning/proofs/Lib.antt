@@ -1,7 +1,7 @@
 pub mod Apart
 pub mod Behaviour
 pub mod Bounds
+pub mod Bridge
 pub mod Forms
 pub mod Grow
-pub mod Relation
 pub mod Worked

@@ -54,5 +54,9 @@ ResultBelow r (result.Measured j) = ⊤
 
 -- every run of the module names fixed numbers below the required ones alone
 pub record StaysBelow (m : Module) (k r : ℕ) : Type 0 where
-  pub qubits : (a : List Answer) (n : ℕ) (es : List Event) (rs : List Record) (e : RunEnd) → Runs m a n es rs e → All (QubitBelow k) (qubits_of_run es e)
-  pub results : (a : List Answer) (n : ℕ) (es : List Event) (rs : List Record) (e : RunEnd) → Runs m a n es rs e → All (ResultBelow r) (results_of_run es e)
+  pub qubits : (a : List Answer) (n : ℕ) (es : List Event) (rs : List Record) (e : RunEnd)
+      → Runs m a n es rs e
+      → All (QubitBelow k) (qubits_of_run es e)
+  pub results : (a : List Answer) (n : ℕ) (es : List Event) (rs : List Record) (e : RunEnd)
+      → Runs m a n es rs e
+      → All (ResultBelow r) (results_of_run es e)

@@ -1,11 +1,9 @@
 pub mod Apart
 pub mod Effects
-pub mod Entry
 pub mod Laws
 pub mod Moves
 pub mod Naming
 pub mod Runs
 pub mod Same
-pub mod Simulation
 pub mod State
-pub mod Steps
+pub mod code

@@ -10,6 +10,7 @@ use Rattle.ir_module.specs.declared.tree.Operand.{Operand}
 use Rattle.ir_module.specs.declared.tree.Phi.{Phi}
 use Rattle.ir_module.specs.declared.tree.Term.{Term}
 use Rattle.ir_module.specs.declared.tree.Term.TheVariants as term
+use Rattle.ir_module.specs.Classes.{class_of_function}
 use Rattle.ir_module.specs.Operands.{operands_of}
 use Rattle.ir_module.specs.Steps.{Step, PhiAt, InstAt, TermAt, NoStep, step_in_module}
 use Rattle.ir_module.specs.Tree.{block_at}
@@ -44,14 +45,6 @@ with_value (Some v) st go = go v
 abbrev pub with_values : Option (List Value) → State → (List Value → Move) → Move
 with_values None st go = Halt (Trap cause.Unbound) st
 with_values (Some vs) st go = go vs
-
--- the words of a function's type
-abbrev pub type_words : Function → List TyWord
-type_words f = signature f.ret (map (λ l. l.1) (take f.params f.locals))
-
--- the class of a declared function
-abbrev pub class_of_function : Function → Option Class
-class_of_function f = class_of (name_text f.name) (type_words f)
 
 abbrev pub first_point : FuncId → Point
 first_point f = record { func = f; block = record { 0 = 0 }; index = 0 }
@@ -127,8 +120,10 @@ module _ (m : Module) (p : Point) (env : Env) (st : State) where
   ends term.RetVoid = Back None
   ends (term.Ret t a) = with_value (value_of env a) st (λ v. Back (Some v))
   ends (term.Br b) = jump b
-  ends (term.CondBr c on_true on_false) = with_value (value_of env c) st (λ v. with_int v (λ i. jump (if is_one i then on_true else on_false)))
-  ends (term.Switch t a default cases) = with_value (value_of env a) st (λ v. with_int v (λ i. jump (target_of i cases default)))
+  ends (term.CondBr c on_true on_false) =
+      with_value (value_of env c) st (λ v. with_int v (λ i. jump (if is_one i then on_true else on_false)))
+  ends (term.Switch t a default cases) =
+      with_value (value_of env a) st (λ v. with_int v (λ i. jump (target_of i cases default)))
 
   abbrev pub step_move : Step → Move
   step_move (PhiAt phi) = Stuck

@@ -11,7 +11,7 @@ use Rattle.ir_values.specs.declared.value.Value.{Value}
 use Rattle.ir_values.specs.declared.value.Value.TheVariants as value
 use Rattle.ir_values.specs.Int.{signed}
 use Rattle.output_records.specs.declared.record.Record.{Record}
-use Rattle.qir_meaning.specs.Entry.{Entry, entry_of}
+use Rattle.ir_module.specs.Entry.{Entry, entry_of}
 use Rattle.qir_meaning.specs.Moves.{move, first_point}
 use Rattle.qir_meaning.specs.State.{Env, State, Stop, Trap, Ask, Next, Enter, Back, Halt, next, bind, frame}
 
@@ -39,13 +39,30 @@ bind_result env x (Some v) = bind env x v
 -- From a point of a function, with these values, so many steps left and this state, to the return of the function. Before each
 -- instruction one step is used, and with none left the run is cut.
 pub data Body (m : Module) : Point → Env → ℕ → State → Result → Type 0 where
-  cut : {p : Point} {env : Env} {st : State} → Body m p env zero st (Over Cut st)
-  halts : {p : Point} {env : Env} {n : ℕ} {st : State} {stop : Stop} {st' : State} → move m p env st ≡ Halt stop st' → Body m p env (suc n) st (Over (end_of stop) st')
-  back : {p : Point} {env : Env} {n : ℕ} {st : State} {v : Option Value} → move m p env st ≡ Back v → Body m p env (suc n) st (Gave v n st)
-  next_point : {p : Point} {env : Env} {n : ℕ} {st : State} {p' : Point} {env' : Env} {st' : State} {r : Result} → move m p env st ≡ Next p' env' st' → Body m p' env' n st' r → Body m p env (suc n) st r
-  -- a call is the whole run of the called body
-  calls : {p : Point} {env : Env} {n : ℕ} {st : State} {q : Point} {env' : Env} {x : Option LocalId} {st' : State} {v : Option Value} {n' : ℕ} {st'' : State} {r : Result} → move m p env st ≡ Enter q env' x st' → Body m q env' n st' (Gave v n' st'') → Body m (next p) (bind_result env x v) n' st'' r → Body m p env (suc n) st r
-  ends_in : {p : Point} {env : Env} {n : ℕ} {st : State} {q : Point} {env' : Env} {x : Option LocalId} {st' : State} {e : RunEnd} {st'' : State} → move m p env st ≡ Enter q env' x st' → Body m q env' n st' (Over e st'') → Body m p env (suc n) st (Over e st'')
+  cut : {p : Point} {env : Env} {st : State}
+      → Body m p env zero st (Over Cut st)
+  halts : {p : Point} {env : Env} {n : ℕ} {st : State} {stop : Stop} {st' : State}
+      → move m p env st ≡ Halt stop st'
+      → Body m p env (suc n) st (Over (end_of stop) st')
+  back : {p : Point} {env : Env} {n : ℕ} {st : State} {v : Option Value}
+      → move m p env st ≡ Back v
+      → Body m p env (suc n) st (Gave v n st)
+  next_point : {p : Point} {env : Env} {n : ℕ} {st : State} {p' : Point} {env' : Env} {st' : State} {r : Result}
+      → move m p env st ≡ Next p' env' st'
+      → Body m p' env' n st' r
+      → Body m p env (suc n) st r
+  -- a call is the whole run of the called body, from its own first values and this state
+  calls : {p : Point} {env : Env} {n : ℕ} {st : State} {q : Point} {env' : Env} {x : Option LocalId} {st' : State}
+      {v : Option Value} {n' : ℕ} {st'' : State} {r : Result}
+      → move m p env st ≡ Enter q env' x st'
+      → Body m q env' n st' (Gave v n' st'')
+      → Body m (next p) (bind_result env x v) n' st'' r
+      → Body m p env (suc n) st r
+  ends_in : {p : Point} {env : Env} {n : ℕ} {st : State} {q : Point} {env' : Env} {x : Option LocalId} {st' : State}
+      {e : RunEnd} {st'' : State}
+      → move m p env st ≡ Enter q env' x st'
+      → Body m q env' n st' (Over e st'')
+      → Body m p env (suc n) st (Over e st'')
 
 -- `ret void` of the entry is the code 0
 abbrev pub Returns : Option Value → RunEnd → Type 0
@@ -68,3 +85,11 @@ pub record Runs (m : Module) (answers : List Answer) (n : ℕ) (es : List Event)
   pub result : Result
   pub body : Body m (first_point (record { 0 = entry.number })) (frame entry.function []) n (start answers) result
   pub ends : Ends result e es rs
+
+-- the module has a run with these answers and this bound
+abbrev pub HasRun : Module → List Answer → ℕ → Type 0
+HasRun m answers n = (es : List Event) × (rs : List Record) × (e : RunEnd) × Runs m answers n es rs e
+
+-- it has a run for every list of answers and every bound: no instruction is without a meaning
+abbrev pub AlwaysRuns : Module → Type 0
+AlwaysRuns m = (answers : List Answer) (n : ℕ) → HasRun m answers n

@@ -1,6 +1,6 @@
 use Rattle.std.proofs.Common.{◌≡◌, ◌++◌, List, subst, ap, ◌∙◌, rules, length, ◌<◌, ◌^◌}
-use Rattle.name_flow.specs.Marks.{gather, block_edges}
-use Rattle.name_flow.specs.Triples.{Triple, Sorts}
+use Rattle.name_flow.specs.code.Marks.{gather, block_edges}
+use Rattle.name_flow.specs.code.Triples.{Triple, Sorts}
 use Rattle.name_flow.proofs.Marked.{IsNarrow-sorted}
 use Rattle.name_flow.proofs.flow.edges.Goals as goal
 

@@ -1,5 +1,5 @@
 use Rattle.std.proofs.Common.{◌≡◌, ◌++◌, length, flat_map, map}
-use Rattle.name_flow.specs.Marks as spec
+use Rattle.name_flow.specs.code.Marks as spec
 use Rattle.name_flow.specs.Uses.{reads}
 use Rattle.name_flow.proofs.marks.push_args.Given as goal
 

@@ -1,7 +1,7 @@
 use Rattle.std.proofs.Common.{arith}
 use Rattle.std.proofs.lemmas.Grind.{common_steps}
 use Rattle.ir_values.specs.declared.ids.BlockId.{BlockId}
-use Rattle.name_flow.specs.Triples.{Triple}
+use Rattle.name_flow.specs.code.Triples.{Triple}
 use Rattle.name_flow.proofs.Members.{map-take-more}
 use Rattle.name_flow.proofs.marks.push_edges_of.Goals as goal
 

@@ -1,5 +1,5 @@
 use Rattle.std.proofs.Common.{◌≡◌, ◌++◌, ◌+◌, ◌<◌, ◌^◌, length}
-use Rattle.name_flow.specs.Marks as spec
+use Rattle.name_flow.specs.code.Marks as spec
 use Rattle.name_flow.proofs.marks.push_insts.Given as goal
 
 abbrev pub invariant-loop-insts : goal.invariant-loop-insts

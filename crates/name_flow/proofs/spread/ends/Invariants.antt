@@ -1,5 +1,5 @@
 use Rattle.std.proofs.Common.{◌-◌, ◌^◌}
-use Rattle.name_flow.specs.Spread.{IsSpread, AreEntered}
+use Rattle.name_flow.specs.code.Spread.{IsSpread, AreEntered}
 use Rattle.name_flow.proofs.spread.ends.Given as goal
 
 abbrev pub invariant-loop-done : goal.invariant-loop-done

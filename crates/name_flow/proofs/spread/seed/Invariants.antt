@@ -1,5 +1,5 @@
 use Rattle.std.proofs.Common.{List, length}
-use Rattle.name_flow.specs.Spread.{Pair, IsSeeded}
+use Rattle.name_flow.specs.code.Spread.{Pair, IsSeeded}
 use Rattle.name_flow.proofs.spread.seed.Given as goal
 
 -- what is still to be seeded makes the whole

@@ -1,6 +1,6 @@
 use Rattle.std.proofs.Common.{rules, of_calls}
 use Rattle.std.proofs.lemmas.List.Sorted.{IsPartitionPoint-from_clause}
-use Rattle.name_flow.specs.Triples.{is_below}
+use Rattle.name_flow.specs.code.Triples.{is_below}
 use Rattle.name_flow.proofs.Order.{ascending-partitioned}
 use Rattle.name_flow.proofs.triples.start.Goals as goal
 

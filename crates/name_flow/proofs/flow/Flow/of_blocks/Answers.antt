@@ -1,7 +1,7 @@
 use Rattle.std.proofs.Common.{◌≡◌, ◌++◌, List, subst, ap, ◌∙◌}
-use Rattle.name_flow.specs.Marks.{ends_used}
-use Rattle.name_flow.specs.Spread.{Pair}
-use Rattle.name_flow.specs.Triples.{Triple, Sorts}
+use Rattle.name_flow.specs.code.Marks.{ends_used}
+use Rattle.name_flow.specs.code.Spread.{Pair}
+use Rattle.name_flow.specs.code.Triples.{Triple, Sorts}
 use Rattle.name_flow.proofs.flow.Flow.of_blocks.Goals as goal
 
 pub returns : goal.returns

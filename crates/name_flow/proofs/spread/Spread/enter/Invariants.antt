@@ -1,5 +1,5 @@
 use Rattle.std.proofs.Common.{ltb, ◌-◌, ◌^◌}
-use Rattle.name_flow.specs.Spread.{EntersWhere}
+use Rattle.name_flow.specs.code.Spread.{EntersWhere}
 use Rattle.name_flow.proofs.spread.Spread.enter.Given as goal
 
 abbrev pub invariant-loop-p : goal.invariant-loop-p

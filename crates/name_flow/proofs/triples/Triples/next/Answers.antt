@@ -1,5 +1,5 @@
 use Rattle.std.proofs.Common.{◌≡◌, sym, ap, subst, ◌∙◌, length, ◌<◌, arith, List}
-use Rattle.name_flow.specs.Triples.{next, Ascends, Triple, NextHolds}
+use Rattle.name_flow.specs.code.Triples.{next, Ascends, Triple, NextHolds}
 use Rattle.name_flow.proofs.Order.{next-end, next-here, next-past, next-holds}
 use Rattle.name_flow.proofs.triples.Triples.next.Goals as goal
 use Rattle.name_flow.proofs.triples.Triples.next.Goals.{else-found-a-via-then-found-a+else-found-b, else-found-a-via-else-found-a}

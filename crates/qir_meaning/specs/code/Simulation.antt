@@ -4,13 +4,13 @@ use Rattle.backend_api.specs.declared.operation.Answer.{Answer}
 use Rattle.ir_module.specs.declared.places.Point.{Point}
 use Rattle.ir_module.specs.declared.tree.Module.{Module}
 use Rattle.ir_values.specs.declared.value.Value.{Value}
-use Rattle.qir_meaning.specs.Entry.{Entry, entry_of}
+use Rattle.ir_module.specs.Entry.{Entry, entry_of}
 use Rattle.qir_meaning.specs.Moves.{move, first_point}
 use Rattle.backend_api.specs.Naming.{Naming, named_events}
 use Rattle.qir_meaning.specs.Naming.{named_end}
 use Rattle.qir_meaning.specs.Runs.{RunEnd, end_of, bind_result, start}
 use Rattle.qir_meaning.specs.State.{Env, State, Move, Next, Enter, Back, Halt, Stuck, next, frame}
-use Rattle.qir_meaning.specs.Steps.{Waiting, Outcome, Ended, Jam, returned, exec}
+use Rattle.qir_meaning.specs.code.Steps.{Waiting, Outcome, Ended, Jam, returned, exec}
 
 -- all that a run has between two instructions
 pub record Whole : Type 0 where
@@ -30,7 +30,8 @@ gives_back (u ∷ us) v st = On (record { at = u.at; env = bind_result u.env u.r
 
 abbrev pub tick_of : Whole → Move → Tick
 tick_of w (Next p env st) = On (record { at = p; env = env; waits = w.waits; state = st })
-tick_of w (Enter q env x st) = On (record { at = q; env = env; waits = (record { at = next w.at; env = w.env; result = x }) ∷ w.waits; state = st })
+tick_of w (Enter q env x st) =
+    On (record { at = q; env = env; waits = (record { at = next w.at; env = w.env; result = x }) ∷ w.waits; state = st })
 tick_of w (Back v) = gives_back w.waits v w.state
 tick_of w (Halt stop st) = Off (Ended (end_of stop) st)
 tick_of w Stuck = Off Jam

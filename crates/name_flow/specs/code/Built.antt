@@ -2,9 +2,9 @@
 use Rattle.std.specs.Prelude.{◌↔◌, ℕ, List, ◌++◌, Contains}
 use Rattle.ir_module.specs.declared.tree.Block.{Block}
 use Rattle.name_flow.specs.declared.flow.Flow.{Flow}
-use Rattle.name_flow.specs.Marks.{gather, block_used, block_defined, block_edges, block_phis_used, ends_used}
-use Rattle.name_flow.specs.Spread.{Pair, IsWantedAfter}
-use Rattle.name_flow.specs.Triples.{Triple, Sorts}
+use Rattle.name_flow.specs.code.Marks.{gather, block_used, block_defined, block_edges, block_phis_used, ends_used}
+use Rattle.name_flow.specs.code.Spread.{Pair, IsWantedAfter}
+use Rattle.name_flow.specs.code.Triples.{Triple, Sorts}
 
 -- the pairs are those of a block and a name that is wanted at its end
 abbrev pub AreEnds : List Triple → List Triple → List Triple → List Pair → Type 0

@@ -9,7 +9,7 @@ use Rattle.ir_module.specs.declared.tree.Inst.{Inst}
 use Rattle.ir_module.specs.declared.tree.Operand.{Operand}
 use Rattle.ir_module.specs.declared.tree.Phi.{Phi}
 use Rattle.ir_module.specs.Edges.{edges}
-use Rattle.name_flow.specs.Triples.{Triple, holds}
+use Rattle.name_flow.specs.code.Triples.{Triple, holds}
 use Rattle.name_flow.specs.Uses.{reads, inst_reads, term_reads}
 
 -- what g makes of each element and its number, counted from n, one after another

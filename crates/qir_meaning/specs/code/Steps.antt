@@ -9,7 +9,7 @@ use Rattle.ir_values.specs.declared.value.Value.{Value}
 use Rattle.ir_values.specs.declared.value.Value.TheVariants as value
 use Rattle.ir_values.specs.Int.{signed}
 use Rattle.output_records.specs.declared.record.Record.{Record}
-use Rattle.qir_meaning.specs.Entry.{Entry, entry_of}
+use Rattle.ir_module.specs.Entry.{Entry, entry_of}
 use Rattle.qir_meaning.specs.Moves.{move, first_point}
 use Rattle.qir_meaning.specs.Runs.{RunEnd, Returned, Cut, end_of, bind_result, start}
 use Rattle.qir_meaning.specs.State.{Env, State, Move, Next, Enter, Back, Halt, Stuck, next, frame}

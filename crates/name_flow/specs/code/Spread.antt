@@ -1,6 +1,6 @@
 -- How names spread backwards over edges, from the first uses in blocks to the blocks before them.
 use Rattle.std.specs.Prelude.{◌≡◌, ◌⊎◌, ℕ, ◌<◌, ◌+◌, ◌^◌, MatchBool, Bool, true, List, [], ◌∷◌, ◌++◌, Contains, Option, None, Some, slice_get}
-use Rattle.name_flow.specs.Triples.{Triple, next, holds, is_first}
+use Rattle.name_flow.specs.code.Triples.{Triple, next, holds, is_first}
 
 abbrev pub Pair : Type 0
 Pair = ℕ × ℕ
@@ -11,8 +11,15 @@ Adds p old new = ((new ≡ old) × Contains old p) ⊎ (new ≡ old ++ p ∷ [])
 
 -- by these uses, definitions and edges the name x is wanted at the start of the block b
 pub data IsWanted (used defined es : List Triple) (x : ℕ) : ℕ → Type 0 where
-  used_here : {b : ℕ} (i : ℕ) → Contains used (b, x, i) → is_first (Some i) (next defined b x 0) ≡ true → IsWanted used defined es x b
-  used_later : {b s : ℕ} → holds es s 0 b ≡ true → next defined b x 0 ≡ None → IsWanted used defined es x s → IsWanted used defined es x b
+  used_here : {b : ℕ} (i : ℕ)
+      → Contains used (b, x, i)
+      → is_first (Some i) (next defined b x 0) ≡ true
+      → IsWanted used defined es x b
+  used_later : {b s : ℕ}
+      → holds es s 0 b ≡ true
+      → next defined b x 0 ≡ None
+      → IsWanted used defined es x s
+      → IsWanted used defined es x b
 
 -- it is wanted at the start of a block that an edge from b leads to
 pub record IsWantedAfter (used defined es : List Triple) (x b : ℕ) : Type 0 where
@@ -29,7 +36,8 @@ pub record IsSpread (used defined es : List Triple) (starts ends : List Pair) : 
 
 -- the starts below number n went over each edge
 abbrev pub AreEntered : List Triple → List Pair → List Pair → ℕ → Type 0
-AreEntered es starts ends n = (k b x p : ℕ) → k < n → slice_get starts k ≡ Some (b, x) → holds es b 0 p ≡ true → Contains ends (p, x)
+AreEntered es starts ends n =
+    (k b x p : ℕ) → k < n → slice_get starts k ≡ Some (b, x) → holds es b 0 p ≡ true → Contains ends (p, x)
 
 -- the list grew at its end
 abbrev pub Grew : List Pair → List Pair → Type 0
@@ -64,13 +72,18 @@ abbrev pub IsNarrow : List Triple → Type 0
 IsNarrow es = (b p : ℕ) → holds es b 0 p ≡ true → p + 1 < 2 ^ 64
 
 -- the name is wanted at the start of b: it is added at the end of each block before b that the test takes
-pub record EntersWhere (takes : ℕ → Bool) (defined es : List Triple) (b x : ℕ) (old_starts old_ends new_starts new_ends : List Pair) : Type 0 where
+pub record EntersWhere (takes : ℕ → Bool) (defined es : List Triple) (b x : ℕ)
+    (old_starts old_ends new_starts new_ends : List Pair) : Type 0 where
   pub starts_grew : Grew old_starts new_starts
   pub ends_grew : Grew old_ends new_ends
   pub each : (p : ℕ) → takes p ≡ true → holds es b 0 p ≡ true → Contains new_ends (p, x)
-  pub through : (p y : ℕ) → Contains new_ends (p, y) → Contains old_ends (p, y) ⊎ ((y ≡ x) × (next defined p y 0 ≡ None → Contains new_starts (p, y)))
+  pub through : (p y : ℕ)
+      → Contains new_ends (p, y)
+      → Contains old_ends (p, y) ⊎ ((y ≡ x) × (next defined p y 0 ≡ None → Contains new_starts (p, y)))
   pub ends : (p y : ℕ) → Contains new_ends (p, y) → Contains old_ends (p, y) ⊎ ((y ≡ x) × (holds es b 0 p ≡ true))
-  pub starts : (p y : ℕ) → Contains new_starts (p, y) → Contains old_starts (p, y) ⊎ ((y ≡ x) × (holds es b 0 p ≡ true) × (next defined p y 0 ≡ None))
+  pub starts : (p y : ℕ)
+      → Contains new_starts (p, y)
+      → Contains old_starts (p, y) ⊎ ((y ≡ x) × (holds es b 0 p ≡ true) × (next defined p y 0 ≡ None))
 
 abbrev pub Enters : List Triple → List Triple → ℕ → ℕ → List Pair → List Pair → List Pair → List Pair → Type 0
 Enters = EntersWhere (λ _. true)

@@ -35,7 +35,7 @@ pub use operations::binary;
 pub use room::Room;
 pub use seq::Seq;
 pub use sig::{Sig, TyWord, Words};
-pub use token::Token;
+pub use token::{Token, after_digits, after_sign, begins_with_digit};
 pub use ty::{Ty, Tys};
 pub use value::Value;
 

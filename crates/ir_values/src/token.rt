@@ -121,7 +121,8 @@ fn is_exponent(bytes: &[u8]) -> bool
     }
 }
 
-fn begins_with_digit(bytes: &[u8]) -> bool
+/// Whether the first byte is a decimal digit. It takes no memory.
+pub fn begins_with_digit(bytes: &[u8]) -> bool
     ensures { result ≡ spec.begins_with_digit bytes.now }
 {
     match bytes {
@@ -130,7 +131,8 @@ fn begins_with_digit(bytes: &[u8]) -> bool
     }
 }
 
-fn after_sign(bytes: &[u8]) -> &[u8]
+/// The bytes behind a `+` or a `-`, and all where there is none. It takes no memory.
+pub fn after_sign(bytes: &[u8]) -> &[u8]
     ensures { result.now ≡ spec.after_sign bytes.now }
 {
     match bytes {
@@ -139,7 +141,8 @@ fn after_sign(bytes: &[u8]) -> &[u8]
     }
 }
 
-fn after_digits(mut bytes: &[u8]) -> &[u8]
+/// The bytes behind the leading decimal digits. It takes no memory.
+pub fn after_digits(mut bytes: &[u8]) -> &[u8]
     ensures { result.now ≡ spec.after_digits bytes.entry.now }
 {
     while let [c, rest @ ..] = bytes {

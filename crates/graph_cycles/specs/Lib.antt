@@ -1,0 +1,3 @@
+pub mod Cycles
+pub mod Split
+pub mod code

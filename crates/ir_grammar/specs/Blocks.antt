@@ -15,7 +15,8 @@ use Rattle.ir_grammar.specs.declared.tree.CaseSyntax.{CaseSyntax}
 use Rattle.ir_grammar.specs.declared.tree.TermSyntax.{TermSyntax}
 use Rattle.ir_grammar.specs.declared.tree.TermSyntax.TheVariants as term
 use Rattle.ir_grammar.specs.declared.tree.BlockSyntax.{BlockSyntax}
-use Rattle.ir_grammar.specs.Forms.{tokens, one, ◌▸◌, ◌◂◌, ◌&◌, ◌or◌}
+use Rattle.ir_tokens.specs.Tokens.{tokens}
+use Rattle.ir_grammar.specs.Forms.{one, ◌▸◌, ◌◂◌, ◌&◌, ◌or◌}
 use Rattle.ir_grammar.specs.Words.{local, label, local_kinds}
 use Rattle.ir_grammar.specs.Types.{type_kinds, integer_type, value_type, return_type}
 use Rattle.ir_grammar.specs.Operands.{constant, integer_operand, operand}

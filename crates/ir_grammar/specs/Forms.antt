@@ -1,20 +1,15 @@
 -- How productions are written here, as in the Extended Backus-Naur Form of the LLVM Language Reference.
-use Rattle.std.specs.Prelude.{List, [], ◌∷◌, Option}
-use Rattle.grammar.specs.Grammar.{Alphabet, Grammar, alphabet, tok, seq, alt, as_tree, any, second, listed}
+use Rattle.std.specs.Prelude.{List, [], ◌∷◌}
+use Rattle.grammar.specs.Grammar.{Grammar, tok, seq, alt, as_tree, any, second, listed}
 use Rattle.ir_tokens.specs.declared.kind.Kind.{Kind}
 use Rattle.ir_tokens.specs.declared.kind.Kind.TheVariants as kind
-use Rattle.ir_tokens.specs.declared.rule.Rule.{Rule}
 use Rattle.ir_tokens.specs.declared.token.Token.{Token}
-use Rattle.ir_tokens.specs.code.Kinds.{code}
+use Rattle.ir_tokens.specs.Tokens.{tokens}
 
 infixl 40 ◌◂◌
 infixr 35 ◌&◌
 infixr 35 ◌▸◌
 infixr 25 ◌or◌
--- the tokens of texts
-abbrev pub tokens : Alphabet
-tokens = alphabet Rule (λ (t : Token). t.kind) code
-
 -- a token of one of these kinds
 abbrev pub one_of : List Kind → Grammar tokens Token
 one_of kinds = tok kinds any

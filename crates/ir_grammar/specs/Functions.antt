@@ -8,7 +8,8 @@ use Rattle.ir_grammar.specs.declared.tree.TypeSyntax.{TypeSyntax}
 use Rattle.ir_grammar.specs.declared.tree.ParamSyntax.{ParamSyntax}
 use Rattle.ir_grammar.specs.declared.tree.BlockSyntax.{BlockSyntax}
 use Rattle.ir_grammar.specs.declared.tree.FunctionSyntax.{FunctionSyntax}
-use Rattle.ir_grammar.specs.Forms.{tokens, commas, ◌▸◌, ◌◂◌, ◌&◌}
+use Rattle.ir_tokens.specs.Tokens.{tokens}
+use Rattle.ir_grammar.specs.Forms.{commas, ◌▸◌, ◌◂◌, ◌&◌}
 use Rattle.ir_grammar.specs.Words.{local, global}
 use Rattle.ir_grammar.specs.Types.{return_type}
 use Rattle.ir_grammar.specs.Instructions.{worded_type, groups}

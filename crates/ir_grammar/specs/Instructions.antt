@@ -20,7 +20,8 @@ use Rattle.ir_grammar.specs.declared.tree.OperandSyntax.{OperandSyntax}
 use Rattle.ir_grammar.specs.declared.tree.ArgSyntax.{ArgSyntax}
 use Rattle.ir_grammar.specs.declared.tree.InstSyntax.{InstSyntax}
 use Rattle.ir_grammar.specs.declared.tree.InstSyntax.TheVariants.{Binary, Icmp, Convert, Select, Call}
-use Rattle.ir_grammar.specs.Forms.{tokens, one, one_of, first, commas, ◌▸◌, ◌◂◌, ◌&◌, ◌or◌}
+use Rattle.ir_tokens.specs.Tokens.{tokens}
+use Rattle.ir_grammar.specs.Forms.{one, one_of, first, commas, ◌▸◌, ◌◂◌, ◌&◌, ◌or◌}
 use Rattle.ir_grammar.specs.Words.{local, global, group}
 use Rattle.ir_grammar.specs.Types.{integer_type, value_type, return_type}
 use Rattle.ir_grammar.specs.Operands.{integer_operand, operand}

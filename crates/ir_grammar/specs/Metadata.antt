@@ -10,7 +10,8 @@ use Rattle.ir_grammar.specs.declared.tree.ElemSyntax.{ElemSyntax}
 use Rattle.ir_grammar.specs.declared.tree.ElemSyntax.TheVariants as elem_tree
 use Rattle.ir_grammar.specs.declared.tree.ItemSyntax.{ItemSyntax}
 use Rattle.ir_grammar.specs.declared.tree.ItemSyntax.TheVariants as item_tree
-use Rattle.ir_grammar.specs.Forms.{tokens, one, one_of, commas, ◌▸◌, ◌◂◌, ◌&◌, ◌or◌}
+use Rattle.ir_tokens.specs.Tokens.{tokens}
+use Rattle.ir_grammar.specs.Forms.{one, one_of, commas, ◌▸◌, ◌◂◌, ◌&◌, ◌or◌}
 use Rattle.ir_grammar.specs.SideRules.{number, is_negative, in_range}
 use Rattle.ir_grammar.specs.Words.{node, integer_kinds}
 

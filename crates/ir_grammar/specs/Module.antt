@@ -8,7 +8,8 @@ use Rattle.ir_grammar.specs.declared.tree.AttrSyntax.{AttrSyntax}
 use Rattle.ir_grammar.specs.declared.tree.AttrSyntax.TheVariants as attr_tree
 use Rattle.ir_grammar.specs.declared.tree.ItemSyntax.{ItemSyntax}
 use Rattle.ir_grammar.specs.declared.tree.ItemSyntax.TheVariants as item_tree
-use Rattle.ir_grammar.specs.Forms.{tokens, one, one_of, first, ◌▸◌, ◌◂◌, ◌&◌, ◌or◌}
+use Rattle.ir_tokens.specs.Tokens.{tokens}
+use Rattle.ir_grammar.specs.Forms.{one, one_of, first, ◌▸◌, ◌◂◌, ◌&◌, ◌or◌}
 use Rattle.ir_grammar.specs.SideRules.{so_long}
 use Rattle.ir_grammar.specs.Words.{local, global, group, nat, words}
 use Rattle.ir_grammar.specs.Operands.{array_type}

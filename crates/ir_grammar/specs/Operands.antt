@@ -11,7 +11,8 @@ use Rattle.ir_tokens.specs.declared.kind.Kind.TheVariants as kind
 use Rattle.ir_tokens.specs.declared.token.Token.{Token}
 use Rattle.ir_grammar.specs.declared.tree.OperandSyntax.{OperandSyntax}
 use Rattle.ir_grammar.specs.declared.tree.OperandSyntax.TheVariants.{Integer, Double, Handle, NoLabel, LabelOf, Function, Local}
-use Rattle.ir_grammar.specs.Forms.{tokens, one, one_of, first, ◌▸◌, ◌◂◌, ◌&◌, ◌or◌}
+use Rattle.ir_tokens.specs.Tokens.{tokens}
+use Rattle.ir_grammar.specs.Forms.{one, one_of, first, ◌▸◌, ◌◂◌, ◌&◌, ◌or◌}
 use Rattle.ir_grammar.specs.SideRules.{same_number}
 use Rattle.ir_grammar.specs.Words.{local, global, nat, integer, zero_number}
 

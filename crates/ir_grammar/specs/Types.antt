@@ -12,7 +12,8 @@ use Rattle.ir_tokens.specs.declared.rule.Rule.{Rule}
 use Rattle.ir_tokens.specs.declared.rule.Rule.TheVariants.{TooDeep}
 use Rattle.ir_tokens.specs.declared.token.Token.{Token}
 use Rattle.ir_grammar.specs.declared.tree.TypeSyntax.{TypeSyntax}
-use Rattle.ir_grammar.specs.Forms.{tokens, one, one_of, commas, ◌◂◌, ◌&◌, ◌or◌}
+use Rattle.ir_tokens.specs.Tokens.{tokens}
+use Rattle.ir_grammar.specs.Forms.{one, one_of, commas, ◌◂◌, ◌&◌, ◌or◌}
 use Rattle.ir_grammar.specs.SideRules.{unless}
 
 -- Integer types.

@@ -7,7 +7,8 @@ use Rattle.ir_values.specs.Int.{IntValue}
 use Rattle.ir_tokens.specs.declared.kind.Kind.{Kind}
 use Rattle.ir_tokens.specs.declared.kind.Kind.TheVariants as kind
 use Rattle.ir_tokens.specs.declared.token.Token.{Token}
-use Rattle.ir_grammar.specs.Forms.{tokens, one}
+use Rattle.ir_tokens.specs.Tokens.{tokens}
+use Rattle.ir_grammar.specs.Forms.{one}
 use Rattle.ir_grammar.specs.SideRules.{number, numbered, same_number, in_range, integer_of}
 
 -- Names. `%Qubit` and `%Result` may be those of values too.

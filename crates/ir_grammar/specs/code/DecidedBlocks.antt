@@ -10,7 +10,8 @@ use Rattle.ir_tokens.specs.declared.token.Token.{Token}
 use Rattle.ir_grammar.specs.declared.tree.TypeSyntax.{TypeSyntax}
 use Rattle.ir_grammar.specs.declared.tree.LineSyntax.{LineSyntax}
 use Rattle.ir_grammar.specs.declared.tree.LinesSyntax.{LinesSyntax}
-use Rattle.ir_grammar.specs.Forms.{tokens, ◌▸◌}
+use Rattle.ir_tokens.specs.Tokens.{tokens}
+use Rattle.ir_grammar.specs.Forms.{◌▸◌}
 use Rattle.ir_grammar.specs.Words.{local, global, label, group, integer}
 use Rattle.ir_grammar.specs.Types.{type_kinds, integer_type, value_type_at, return_type}
 use Rattle.ir_grammar.specs.Operands.{truth, constant, integer_operand, operand}

@@ -7,7 +7,7 @@ use Rattle.ir_values.specs.declared.int.Width.{Width}
 use Rattle.ir_values.specs.declared.int.Width.TheVariants as width
 use Rattle.ir_values.specs.declared.int.Flags.{Flags}
 use Rattle.ir_tokens.specs.declared.kind.Kind.TheVariants as kind
-use Rattle.ir_grammar.specs.Forms.{tokens}
+use Rattle.ir_tokens.specs.Tokens.{tokens}
 use Rattle.ir_grammar.specs.Words.{local, global, group, integer}
 use Rattle.ir_grammar.specs.Types.{integer_type, value_type_at, return_type, base_type, plain_type, byte_type, qubit_type, result_type, void_type}
 use Rattle.ir_grammar.specs.Operands.{truth, constant, integer_operand}

@@ -4,7 +4,7 @@ use Rattle.grammar.specs.Grammar.{listed, preceded, ignored}
 use Rattle.grammar.specs.LookAhead.{LL1, Starts, firsts, extensions, marks, apart}
 use Rattle.ir_tokens.specs.declared.kind.Kind.{Kind}
 use Rattle.ir_tokens.specs.declared.kind.Kind.TheVariants as kind
-use Rattle.ir_grammar.specs.Forms.{tokens}
+use Rattle.ir_tokens.specs.Tokens.{tokens}
 use Rattle.ir_grammar.specs.Words.{local, global, label, group, node, nat, words}
 use Rattle.ir_grammar.specs.Types.{value_type_at, return_type, base_type, plain_type, byte_type, qubit_type, result_type, void_type}
 use Rattle.ir_grammar.specs.Operands.{array_type}

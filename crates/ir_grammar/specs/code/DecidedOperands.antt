@@ -7,7 +7,7 @@ use Rattle.ir_values.specs.declared.int.Width.TheVariants as width
 use Rattle.ir_values.specs.declared.ty.Ty.{Ty}
 use Rattle.ir_values.specs.declared.ty.Ty.TheVariants as ty
 use Rattle.ir_tokens.specs.declared.kind.Kind.TheVariants as kind
-use Rattle.ir_grammar.specs.Forms.{tokens}
+use Rattle.ir_tokens.specs.Tokens.{tokens}
 use Rattle.ir_grammar.specs.Words.{local, global, nat, integer, zero_number}
 use Rattle.ir_grammar.specs.Types.{type_kinds, integer_type}
 use Rattle.ir_grammar.specs.Operands.{truth, constant, integer_operand, double_operand, numbered_handle, handle_operand, zero_index, indexed, array_type, same_array, array_types, label_operand, text_operand, function_operand, operand}

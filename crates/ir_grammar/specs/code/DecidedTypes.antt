@@ -5,7 +5,7 @@ use Rattle.grammar.specs.LookAhead.{LL1, Starts, firsts, extensions, nullable, m
 use Rattle.ir_tokens.specs.declared.kind.Kind.{Kind}
 use Rattle.ir_tokens.specs.declared.kind.Kind.TheVariants as kind
 use Rattle.ir_grammar.specs.declared.tree.TypeSyntax.{TypeSyntax}
-use Rattle.ir_grammar.specs.Forms.{tokens}
+use Rattle.ir_tokens.specs.Tokens.{tokens}
 use Rattle.ir_grammar.specs.Types.{type_kinds, plain_type, byte_type, qubit_type, result_type, void_type, base_type, return_type_of, value_type_of, suffix_of, suffix_at, value_type_at, return_type}
 
 -- the kinds by which types begin

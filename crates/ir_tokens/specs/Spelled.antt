@@ -18,7 +18,7 @@ abbrev pub slice_found : List ℕ → Result (Tok × Span) LexError → List ℕ
 slice_found bytes (Ok found) = slice bytes found.1
 slice_found bytes (Err e) = []
 
--- the bytes that spell the token at a place, and none where no token stands there
+-- the bytes that spell the next token from a place on, and none where a fault or the end comes
 unfoldable pub spelling_at : List ℕ → ℕ → List ℕ
 spelling_at bytes place = slice_found bytes (next place (drop place bytes))
 

@@ -12,8 +12,8 @@ use ir_text::next_token;
 use ir_values::{Bytes, Memory, Name};
 use std::alloc::Global;
 
-/// The bytes that spell the token at a place of the text, counted in bytes from 0; none where no token
-/// stands there. It takes no memory.
+/// The bytes that spell the next token from a place of the text on, counted in bytes from 0: that of a token
+/// gives its own spelling. None where a fault or the end comes. It takes no memory.
 #[tactic(auto, unfolding(crate::specs::Spelled::spelling_at))]
 pub fn spelling(bytes: &[u8], place: u32) -> &[u8]
     ensures { result.now ≡ spec.spelling_at bytes.now place }

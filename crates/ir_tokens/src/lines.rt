@@ -30,7 +30,9 @@ impl<'a> Model for Lines<'a> {
 
     ghost view = { λ lines. lines.bytes.now };
 
-    ghost invariant = { λ lines. (length lines.bytes.now < 2 ^ 32 - 1) × (lines.place ≤ length lines.bytes.now) × (lines.position ≡ position_of lines.bytes.now lines.place) };
+    ghost invariant = { λ lines. (length lines.bytes.now < 2 ^ 32 - 1)
+        × (lines.place ≤ length lines.bytes.now)
+        × (lines.position ≡ position_of lines.bytes.now lines.place) };
 }
 
 impl<'a> Lines<'a> {

@@ -31,13 +31,16 @@ IsBrokenAside g us [] r = ⊥
 IsBrokenAside g us (t ∷ v) r = Front g (Breaks r) (us ++ t ∷ [])
 
 abbrev pub IsFaultAside : {L : Alphabet} {A : Type 0} → Grammar L A → List L.Token → List L.Token → Fault L.Rule → Type 0
-IsFaultAside g us rest (Unexpected d) = IsUnexpectedAside g us rest × (d ≡ true → Front (bare g) Marked us) × (Front (bare g) Marked us → d ≡ true)
+IsFaultAside g us rest (Unexpected d) =
+    IsUnexpectedAside g us rest × (d ≡ true → Front (bare g) Marked us) × (Front (bare g) Marked us → d ≡ true)
 IsFaultAside g us rest (Broken r) = IsBrokenAside g us rest r
 
 -- The first fault in text order: a token that breaks a side rule, or one with which the tokens are no viable prefix of
 -- the grammar without its side rules.
 abbrev pub MisreadAside : {L : Alphabet} {A : Type 0} → Grammar L A → List L.Token → Fault L.Rule → ℕ → Type 0
-MisreadAside {L} g ts f k = (us rest : List L.Token) × (ts ≡ us ++ rest) × (k ≡ length us) × Front (bare g) Fine us × KeepsRules g us × IsFaultAside g us rest f
+MisreadAside {L} g ts f k =
+    (us rest : List L.Token) × (ts ≡ us ++ rest) × (k ≡ length us) × Front (bare g) Fine us × KeepsRules g us
+    × IsFaultAside g us rest f
 
 -- It is the same fault.
 abbrev pub SameFault : {L : Alphabet} {A : Type 0} → Grammar L A → Type 0

@@ -14,7 +14,9 @@ OneTree {L} {A} g = (ts : List L.Token) (x y : A) → Derives g ts x → Derives
 
 -- Sentences, and the beginnings of viable prefixes, are viable prefixes.
 abbrev pub PrefixClosed : {L : Alphabet} {A : Type 0} → Grammar L A → Type 0
-PrefixClosed {L} {A} g = ((ts : List L.Token) (x : A) → Derives g ts x → Front g Fine ts) × ((us vs : List L.Token) → Front g Fine (us ++ vs) → Front g Fine us)
+PrefixClosed {L} {A} g =
+    ((ts : List L.Token) (x : A) → Derives g ts x → Front g Fine ts)
+    × ((us vs : List L.Token) → Front g Fine (us ++ vs) → Front g Fine us)
 
 -- What one token of look-ahead answers holds, and nothing else does.
 abbrev pub AnswersExactly : {L : Alphabet} {A : Type 0} → Grammar L A → Type 0

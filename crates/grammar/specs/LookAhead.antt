@@ -74,8 +74,13 @@ LL1 {L} (alt a b) = LL1 a × LL1 b × (apart L (firsts a) (firsts b) ≡ true) �
 LL1 {L} (opt a) = LL1 a × (nullable a ≡ false)
 LL1 {L} (rep a) = LL1 a × (nullable a ≡ false) × (apart L (extensions a) (firsts a) ≡ true)
 LL1 {L} (as_tree f a) = LL1 a
-LL1 {L} (dep a s f) = LL1 a × (nullable a ≡ false) × ((x : _) → LL1 (f x) × (apart L (extensions a) (firsts (f x)) ≡ true) × (nullable (f x) ≡ true → within L (extensions a) s ≡ true) × (within L (extensions (f x)) s ≡ true))
-LL1 {L} (grow x s f) = (y : _) → LL1 (f y) × (nullable (f y) ≡ false) × (within L (firsts (f y)) s ≡ true) × (within L (extensions (f y)) s ≡ true) × ((z : _) → apart L (extensions (f y)) (firsts (f z)) ≡ true)
+LL1 {L} (dep a s f) =
+    LL1 a × (nullable a ≡ false)
+    × ((x : _) → LL1 (f x) × (apart L (extensions a) (firsts (f x)) ≡ true) × (nullable (f x) ≡ true → within L (extensions a) s ≡ true)
+    × (within L (extensions (f x)) s ≡ true))
+LL1 {L} (grow x s f) =
+    (y : _) → LL1 (f y) × (nullable (f y) ≡ false) × (within L (firsts (f y)) s ≡ true) × (within L (extensions (f y)) s ≡ true)
+    × ((z : _) → apart L (extensions (f y)) (firsts (f z)) ≡ true)
 LL1 {L} (marked a) = LL1 a
 
 -- What a reader of a part has to know of it: one token of look-ahead decides in it, it is never empty, these are the kinds

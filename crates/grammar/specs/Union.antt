@@ -26,7 +26,8 @@ IsEitherFault g h us rest (Broken r) = IsEitherBroken g h us rest r
 
 -- The first fault of the union: the first token with which the tokens are a viable prefix of neither grammar.
 abbrev pub EitherMisread : {L : Alphabet} {A : Type 0} → Grammar L A → Grammar L A → List L.Token → Fault L.Rule → ℕ → Type 0
-EitherMisread {L} g h ts f k = (us rest : List L.Token) × (ts ≡ us ++ rest) × (k ≡ length us) × Front (alt g h) Fine us × IsEitherFault g h us rest f
+EitherMisread {L} g h ts f k =
+    (us rest : List L.Token) × (ts ≡ us ++ rest) × (k ≡ length us) × Front (alt g h) Fine us × IsEitherFault g h us rest f
 
 abbrev pub EitherHolds : {L : Alphabet} {A : Type 0} → Grammar L A → Grammar L A → List L.Token → Answer L A → Type 0
 EitherHolds g h ts (Ok x) = EitherDerives g h ts x
@@ -50,4 +51,7 @@ join (Err e) (Err f) = Err (later e f)
 
 -- The joined answer holds of the union, and nothing else does.
 abbrev pub JoinHolds : {L : Alphabet} {A : Type 0} → Grammar L A → Grammar L A → Type 0
-JoinHolds {L} {A} g h = (ts : List L.Token) → EitherHolds g h ts (join (answer g ts) (answer h ts)) × ((q : Answer L A) → EitherHolds g h ts q → q ≡ join (answer g ts) (answer h ts))
+JoinHolds {L} {A} g h =
+    (ts : List L.Token)
+    → EitherHolds g h ts (join (answer g ts) (answer h ts))
+    × ((q : Answer L A) → EitherHolds g h ts q → q ≡ join (answer g ts) (answer h ts))

@@ -42,7 +42,10 @@ plain b = record { base = b; stars = 0 }
 
 -- a base type: a word, or a tuple
 abbrev pub base_of : Grammar tokens ValueType → Grammar tokens ValueType
-base_of tuple = alt (as_tree (λ t. plain base.Int) (one kind.Int)) (alt (as_tree (λ t. plain base.Bool) (one kind.Bool)) (alt (as_tree (λ t. plain base.Unit) (one kind.Unit)) tuple))
+base_of tuple =
+    alt (as_tree (λ t. plain base.Int) (one kind.Int))
+    (alt (as_tree (λ t. plain base.Bool) (one kind.Bool))
+    (alt (as_tree (λ t. plain base.Unit) (one kind.Unit)) tuple))
 
 -- type = base { "*" }
 abbrev pub stars_of : Grammar tokens ValueType → Grammar tokens ValueType
@@ -96,7 +99,8 @@ set x = set_at (nat_eq x.stars 0) x.base (value_of x)
 
 -- const = "const" name ":" type "=" value(type) ";"
 unfoldable pub constant : Grammar tokens Item
-constant = as_tree (λ p. item.Const p.1.0 p.1.1.1.0.0 p.1.1.1.0.1) (seq (one kind.Const) (seq name (seq (one kind.Colon) (seq (dep type_of (kind.Star ∷ []) set) (one kind.Semicolon)))))
+constant = as_tree (λ p. item.Const p.1.0 p.1.1.1.0.0 p.1.1.1.0.1)
+    (seq (one kind.Const) (seq name (seq (one kind.Colon) (seq (dep type_of (kind.Star ∷ []) set) (one kind.Semicolon)))))
 
 -- result = [ ":" type ]
 unfoldable pub result_of : Grammar tokens (Option ValueType)
@@ -104,7 +108,9 @@ result_of = opt (as_tree second (seq (one kind.Colon) type_of))
 
 -- function = "fn" name "(" [ type { "," type } ] ")" [ ":" type ] ";"
 unfoldable pub function : Grammar tokens Item
-function = as_tree (λ p. item.Function p.1.0 p.1.1.1.0 p.1.1.1.1.1.0) (seq (one kind.Function) (seq name (seq (one kind.Open) (seq (listed (kind.Comma ∷ []) type_of) (seq (one kind.Close) (seq result_of (one kind.Semicolon)))))))
+function = as_tree (λ p. item.Function p.1.0 p.1.1.1.0 p.1.1.1.1.1.0)
+    (seq (one kind.Function) (seq name (seq (one kind.Open)
+    (seq (listed (kind.Comma ∷ []) type_of) (seq (one kind.Close) (seq result_of (one kind.Semicolon)))))))
 
 -- item = const | function
 unfoldable pub item_of : Grammar tokens Item

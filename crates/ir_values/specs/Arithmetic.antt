@@ -109,7 +109,8 @@ may_leave other = false
 abbrev pub breaks : BinOp → Flags → IntValue → IntValue → Bool
 breaks o flags a b =
     if may_wrap o
-    then (flags.nuw && not (fits_unsigned a.width (exact_by unsigned o a b))) || (flags.nsw && not (fits_signed a.width (exact_by signed o a b)))
+    then (flags.nuw && not (fits_unsigned a.width (exact_by unsigned o a b)))
+    || (flags.nsw && not (fits_signed a.width (exact_by signed o a b)))
     else if may_leave o then flags.exact && not (left_over o a b == 0)
     else false
 

@@ -15,7 +15,8 @@ labels links = map (λ l. l.label) links
 -- the links lead to hs, each by the number of its node in the list
 pub record LeadsTo {N D E : Type 0} (nodes : List (Visited N D E)) (links : List (Link E)) (hs : List N) : Type 0 where
   pub number : length links ≡ length hs
-  pub to : (j : ℕ) (l : Link E) → slice_get links j ≡ Some l → (w : Visited N D E) × (slice_get nodes l.to ≡ Some w) × (slice_get hs j ≡ Some w.node)
+  pub to : (j : ℕ) (l : Link E) → slice_get links j ≡ Some l
+      → (w : Visited N D E) × (slice_get nodes l.to ≡ Some w) × (slice_get hs j ≡ Some w.node)
 
 -- The graph is accepted, and the list has all its nodes, in path order, each with links to its successors and with what it carries.
 pub record Explored {N K D E : Type 0} (s : Search N K) (Carries : N → D → List E → Type 0) (nodes : List (Visited N D E)) : Type 0 where

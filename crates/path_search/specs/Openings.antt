@@ -16,7 +16,8 @@ IsAscending ps = (i j : ℕ) (p q : List ℕ) → i < j → slice_get ps i ≡ S
 abbrev pub IsLast : List (List ℕ) → List ℕ → Type 0
 IsLast ps p = (front : List (List ℕ)) × (ps ≡ front ++ p ∷ [])
 
--- simple paths in path order, to distinct nodes, such that each simple path that is not after the last leads to a node that one of them found
+-- simple paths in path order, to distinct nodes, such that each simple path that is not after the last leads to a node that one of
+-- them found
 pub record Opening {N K : Type 0} (s : Search N K) (ps : List (List ℕ)) : Type 0 where
   pub simple : (p : List ℕ) → Contains ps p → (g : N) × IsSimple s p g
   pub ordered : IsAscending ps

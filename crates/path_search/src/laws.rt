@@ -1,5 +1,4 @@
 //! Laws of path order, openings and verdicts.
-ghost use Rattle.std.specs.Prelude.{ℕ};
 ghost use Rattle.path_search.specs.Paths.{Search};
 ghost use Rattle.path_search.specs.Laws.{IsPathOrder, HasOneOpening, HasOneVerdict};
 
@@ -9,11 +8,11 @@ pub fn paths_are_ordered()
 {}
 
 /// Of each length there is at most one opening, of any graph.
-pub fn an_opening_is_one()
-    ensures { (s : Search ℕ ℕ) → HasOneOpening s }
+pub fn an_opening_is_one<N, K>()
+    ensures { (s : Search N K) → HasOneOpening s }
 {}
 
 /// There is at most one verdict on any graph.
-pub fn the_verdict_is_one()
-    ensures { (s : Search ℕ ℕ) → HasOneVerdict s }
+pub fn the_verdict_is_one<N, K>()
+    ensures { (s : Search N K) → HasOneVerdict s }
 {}

@@ -30,7 +30,8 @@ seen s = record {
 }
 
 pub told_fits : (s : ScriptState) (es : List Event) → (seen s).events ≡ Some es → (seen s).fits es ≡ true
-told_fits s es e = (starts_is {E = beq} booleans_Decides (given s) (bits_in es) _ refl).1 s.left (ap (λ l. bits_in l ++ s.left) (events_told e))
+told_fits s es e =
+    (starts_is {E = beq} booleans_Decides (given s) (bits_in es) _ refl).1 s.left (ap (λ l. bits_in l ++ s.left) (events_told e))
   where
     events_told : Some s.events ≡ Some es → s.events ≡ es
     events_told told = cc

@@ -1,5 +1,5 @@
 -- A source names fixed numbers below its required number of qubits alone, and no results.
-use Rattle.std.proofs.Common.{◌≡◌, ℕ, zero, suc, ◌+◌, List, [], ◌∷◌, ◌++◌, flat_map, Some, None, refl, sym, ap, ◌∙◌, subst}
+use Rattle.std.proofs.Common.{◌≡◌, ℕ, zero, suc, ◌+◌, Bool, List, [], ◌∷◌, ◌++◌, flat_map, map, Some, None, refl, sym, ap, ◌∙◌, subst, true≢false}
 use Rattle.std.proofs.lemmas.Bool.{ltb-true}
 use Rattle.std.proofs.lemmas.Grind.{flat_map-append}
 use Rattle.std.proofs.lemmas.List.Elements.{All-append, All-cons, All-nil, All-same}
@@ -14,13 +14,14 @@ use Rattle.backend_api.specs.declared.operation.ResultRef.{ResultRef}
 use Rattle.backend_api.specs.Operations.{qubits_in, qubits_of, qubits_of_arg, results_in, results_of, results_of_arg}
 use Rattle.ir_module.specs.declared.tree.Inst.{Inst}
 use Rattle.ir_module.specs.declared.tree.Module.{Module}
-use Rattle.ir_reader.specs.declared.line.Line.{Line}
-use Rattle.ir_reader.specs.declared.line.Line.TheVariants.{Allocate, Release, Apply, Cnot}
-use Rattle.ir_reader.specs.declared.line.Qubit.{Qubit}
-use Rattle.ir_reader.specs.declared.line.Qubit.TheVariants.{Named, Numbered}
-use Rattle.ir_reader.specs.FirstText.{Scope, after_line, qubit_fits}
-use Rattle.ir_reader.specs.FirstTree.{number_of}
+use Rattle.ir_module.specs.declared.tree.Operand.{Operand}
+use Rattle.ir_module.specs.declared.tree.Operand.TheVariants as operand
+use Rattle.ir_values.specs.declared.value.Value.{Value}
 use Rattle.ir_values.specs.declared.value.Value.TheVariants as value
+use Rattle.qir_cli.specs.OneBlock.{is_qubit_type, names_qubit}
+use Rattle.qir_cli.proofs.Held.{and-right}
+use Rattle.qir_cli.proofs.Moves.{at, AllFit, Args, fits-first, fits-rest, operand_ref, refs}
+use Rattle.qir_cli.proofs.Source.{IsSource, Stands, Does, alone, gates, comes-back, does-next, source, state}
 use Rattle.qir_meaning.specs.Apart.{QubitBelow, qubits_of_run, results_of_run}
 use Rattle.qir_meaning.specs.Effects.{gate, operation}
 use Rattle.ir_values.specs.Names.{name_text}
@@ -28,22 +29,24 @@ use Rattle.qir_meaning.specs.code.Simulation.{Whole, Tick, run, tick, tick_of}
 use Rattle.qir_meaning.specs.State.{Env}
 use Rattle.qir_meaning.specs.code.Steps.{Outcome, Ended, Jam}
 use Rattle.qir_meaning.proofs.Grow.{goes, run-suc, run-zero}
-use Rattle.qir_cli.proofs.Moves.{at, AllFit, apply, cnot, qubit_ref, refs}
-use Rattle.qir_cli.proofs.Scopes.{but}
-use Rattle.qir_cli.proofs.Source.{IsSource, Stands, allocates, applies-cnot, applies-gate, applied-fits, comes-back, controlled-fits, frees, source, stands-allocated, stands-applied, stands-controlled, stands-released, state}
 
 module _ (k : ℕ) where
-  ref-below : (scope : Scope) (a : Qubit) → IsTrue (qubit_fits k scope a) → QubitBelow k (qubit_ref scope a)
-  ref-below scope (Named n) h = tt
-  ref-below scope (Numbered n) h = ltb-true n k h
+  ref-below : (held : List Bool) (o : Operand) → IsTrue (names_qubit k held o) → QubitBelow k (operand_ref o)
+  ref-below held (operand.Local x) h = tt
+  ref-below held (operand.Const v) h = of-value v h
+    where
+      of-value : (v : Value) → IsTrue (names_qubit k held (operand.Const v)) → QubitBelow k (operand_ref (operand.Const v))
+      of-value (value.Id n) h = ltb-true n k h
+      of-value v h = absurd (true≢false (sym h))
 
-  refs-below : (scope : Scope) (qs : List Qubit) → AllFit k scope qs → All (QubitBelow k) (flat_map qubits_of_arg (refs scope qs))
-  refs-below scope [] h = All-nil (QubitBelow k)
-  refs-below scope (q ∷ qs) h = All-cons (QubitBelow k) (qubit_ref scope q) (flat_map qubits_of_arg (refs scope qs)) (ref-below scope q h.0) (refs-below scope qs h.1)
+  refs-below : (held : List Bool) (args : Args) → AllFit k held args → All (QubitBelow k) (flat_map qubits_of_arg (refs args))
+  refs-below held [] h = All-nil (QubitBelow k)
+  refs-below held (a ∷ args) h = All-cons (QubitBelow k) (operand_ref a.1) (flat_map qubits_of_arg (refs args))
+      (ref-below held a.1 (and-right (is_qubit_type a.0) (names_qubit k held a.1) (fits-first k held a args h))) (refs-below held args (fits-rest k held a args h))
 
-  no-results : (scope : Scope) (qs : List Qubit) → flat_map results_of_arg (refs scope qs) ≡ []
-  no-results scope [] = refl
-  no-results scope (q ∷ qs) = no-results scope qs
+  no-results : (args : Args) → flat_map results_of_arg (refs args) ≡ []
+  no-results [] = refl
+  no-results (a ∷ args) = no-results args
 
   -- such a list of handles
   pub record AreBelow (qubits : List QubitRef) (results : List ResultRef) : Type 0 where
@@ -53,8 +56,8 @@ module _ (k : ℕ) where
   abbrev pub EventsBelow : List Event → Type 0
   EventsBelow es = AreBelow (qubits_in es) (results_in es)
 
-  call-below : (name : List ℕ) (scope : Scope) (qs : List Qubit) → AllFit k scope qs → AreBelow (qubits_of (operation name (refs scope qs))) (results_of (operation name (refs scope qs)))
-  call-below name scope qs h = record { all = refs-below scope qs h; none = no-results scope qs }
+  call-below : (name : List ℕ) (held : List Bool) (args : Args) → AllFit k held args → AreBelow (qubits_of (operation name (refs args))) (results_of (operation name (refs args)))
+  call-below name held args h = record { all = refs-below held args h; none = no-results args }
 
   more-below : (qs ps : List QubitRef) (rs ts : List ResultRef) → AreBelow qs rs → AreBelow ps ts → AreBelow (qs ++ ps) (rs ++ ts)
   more-below qs ps rs ts a b = record { all = All-append (QubitBelow k) qs ps a.all b.all; none = ap (λ l. l ++ ts) a.none ∙ b.none }
@@ -76,27 +79,26 @@ module _ (k : ℕ) where
   over-below : (es : List Event) → EventsBelow es → AreBelow (qubits_in es ++ []) (results_in es ++ [])
   over-below es a = more-below (qubits_in es) [] (results_in es) [] a (record { all = All-nil (QubitBelow k); none = refl })
 
-module _ (m : Module) (k : ℕ) (ins : List Inst) (S : IsSource m ins) where
+module _ (m : Module) (f k names : ℕ) (ins : List Inst) (S : IsSource m f ins) where
   by-tick : (n : ℕ) (w : Whole) (t : Tick) → tick m w ≡ t → EndsBelow k (goes (run m n) t) → EndsBelow k (run m (suc n) w)
   by-tick n w t e h = subst (EndsBelow k) (sym (run-suc m n w ∙ ap (goes (run m n)) e)) h
 
-  gate-below : (n i d : ℕ) (env : Env) (hs : List ℕ) (es : List Event) (op : Op) (ans : List Answer) → AreBelow k (qubits_of op) (results_of op) → EventsBelow k es → tick m (source i env ans d hs es) ≡ tick_of (source i env ans d hs es) (gate (at 0 i) env None (state ans d hs es) op ans) → ((ans' : List Answer) (es' : List Event) → EventsBelow k es' → EndsBelow k (run m n (source (i + 1) env ans' d hs es'))) → EndsBelow k (run m (suc n) (source i env ans d hs es))
-  gate-below n i d env hs es op [] b a e rec = by-tick n (source i env [] d hs es) _ e (more-below k (qubits_in es) (qubits_of op) (results_in es) (results_of op) a b)
-  gate-below n i d env hs es op (answer.Bit x ∷ rest) b a e rec = by-tick n (source i env (answer.Bit x ∷ rest) d hs es) _ e (more-below k (qubits_in es) (qubits_of op) (results_in es) (results_of op) a b)
-  gate-below n i d env hs es op (answer.Done ∷ rest) b a e rec = by-tick n (source i env (answer.Done ∷ rest) d hs es) _ e (rec rest (es ++ (record { op = op; answer = answer.Done }) ∷ []) (event-below k es op a b))
+  gate-below : (n i d : ℕ) (env : Env) (hs : List ℕ) (es : List Event) (op : Op) (ans : List Answer) → AreBelow k (qubits_of op) (results_of op) → EventsBelow k es → tick m (source f i env ans d hs es) ≡ tick_of (source f i env ans d hs es) (gate (at f 0 i) env None (state ans d hs es) op ans) → ((ans' : List Answer) (es' : List Event) → EventsBelow k es' → EndsBelow k (run m n (source f (i + 1) env ans' d hs es'))) → EndsBelow k (run m (suc n) (source f i env ans d hs es))
+  gate-below n i d env hs es op [] b a e rec = by-tick n (source f i env [] d hs es) _ e (more-below k (qubits_in es) (qubits_of op) (results_in es) (results_of op) a b)
+  gate-below n i d env hs es op (answer.Bit x ∷ rest) b a e rec = by-tick n (source f i env (answer.Bit x ∷ rest) d hs es) _ e (more-below k (qubits_in es) (qubits_of op) (results_in es) (results_of op) a b)
+  gate-below n i d env hs es op (answer.Done ∷ rest) b a e rec = by-tick n (source f i env (answer.Done ∷ rest) d hs es) _ e (rec rest (es ++ (record { op = op; answer = answer.Done }) ∷ []) (event-below k es op a b))
 
-  pub run-below : (n : ℕ) (lines : List Line) (scope : Scope) (i d : ℕ) (env : Env) (hs : List ℕ) (es : List Event) (ans : List Answer) → Stands ins k scope lines i d env hs → EventsBelow k es → EndsBelow k (run m n (source i env ans d hs es))
-  run-below zero lines scope i d env hs es ans h a = subst (EndsBelow k) (sym (run-zero m (source i env ans d hs es))) (over-below k es a)
-  run-below (suc n) [] scope i d env hs es ans h a = by-tick n (source i env ans d hs es) _ (comes-back m ins S k scope i d env hs es ans h) (over-below k es a)
-  run-below (suc n) (Allocate x ∷ lines) scope i d env hs es ans h a =
-      by-tick n (source i env ans d hs es) _ (allocates m ins S k scope i d env hs es ans x lines h)
-      (run-below n lines (after_line scope (Allocate x)) (i + 1) (d + 1) (slice_set env d (Some (value.Alloc d))) (hs ++ d ∷ []) es ans (stands-allocated ins k scope lines i d env hs x h) a)
-  run-below (suc n) (Release x ∷ lines) scope i d env hs es ans h a =
-      by-tick n (source i env ans d hs es) _ (frees m ins S k scope i d env hs es ans x lines h)
-      (run-below n lines (after_line scope (Release x)) (i + 1) d env (but (number_of scope x) hs) es ans (stands-released ins k scope lines i d env hs x h) a)
-  run-below (suc n) (Apply g q ∷ lines) scope i d env hs es ans h a =
-      gate-below n i d env hs es _ ans (call-below k (name_text (apply g).name) scope (q ∷ []) (applied-fits ins k scope lines i d env hs g q h)) a (applies-gate m ins S k scope i d env hs es ans g q lines h)
-      (λ ans' es' a'. run-below n lines scope (i + 1) d env hs es' ans' (stands-applied ins k scope lines i d env hs g q h) a')
-  run-below (suc n) (Cnot p q ∷ lines) scope i d env hs es ans h a =
-      gate-below n i d env hs es _ ans (call-below k (name_text cnot.name) scope (p ∷ q ∷ []) (controlled-fits ins k scope lines i d env hs p q h)) a (applies-cnot m ins S k scope i d env hs es ans p q lines h)
-      (λ ans' es' a'. run-below n lines scope (i + 1) d env hs es' ans' (stands-controlled ins k scope lines i d env hs p q h) a')
+  pub run-below : (n : ℕ) (rest : List Inst) (i d : ℕ) (env : Env) (held : List Bool) (hs : List ℕ) (es : List Event) (ans : List Answer) → Stands m k names ins rest i d env held hs → EventsBelow k es
+      → EndsBelow k (run m n (source f i env ans d hs es))
+  run-below zero rest i d env held hs es ans h a = subst (EndsBelow k) (sym (run-zero m (source f i env ans d hs es))) (over-below k es a)
+  run-below (suc n) [] i d env held hs es ans h a = by-tick n (source f i env ans d hs es) _ (comes-back m f ins S k names i d env held hs es ans h) (over-below k es a)
+  run-below (suc n) (x ∷ rest) i d env held hs es ans h a =
+      by (λ i d env held hs es ans h a. run-below n rest i d env held hs es ans h a) (does-next m f ins S k names i d env held hs x rest h)
+    where
+      by : ((i d : ℕ) (env : Env) (held : List Bool) (hs : List ℕ) (es : List Event) (ans : List Answer) → Stands m k names ins rest i d env held hs → EventsBelow k es
+              → EndsBelow k (run m n (source f i env ans d hs es)))
+          → Does m k names ins rest f i d env held hs x → EndsBelow k (run m (suc n) (source f i env ans d hs es))
+      by ih (alone d' env' held' hs' stands ticks none) = by-tick n (source f i env ans d hs es) _ (ticks es ans) (ih (i + 1) d' env' held' hs' es ans stands a)
+      by ih (gates args call stands fit ticks one) =
+          gate-below n i d env hs es _ ans (call-below k (name_text call.function.name) held args fit) a (ticks es ans)
+          (λ ans' es' a'. ih (i + 1) d env held hs es' ans' stands a')

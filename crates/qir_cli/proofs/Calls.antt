@@ -7,7 +7,7 @@ use Rattle.std.proofs.lemmas.Grind.{flat_map-append}
 use Rattle.std.proofs.lemmas.List.{map-append}
 use Rattle.ir_values.specs.Equal.{same_test}
 use Rattle.qir_cli.specs.declared.base_lowering.Lowered.{Lowered}
-use Rattle.qir_cli.specs.BaseCode.{Wrote, gates_text, gate_text, declare_text}
+use Rattle.qir_cli.specs.code.BaseCode.{Wrote, gates_text, gate_text, declare_text}
 use Rattle.qir_cli.specs.BaseGates.{GateCall, is_called, first_calls}
 
 eq-sym : (m n : ℕ) → (m == n) ≡ (n == m)

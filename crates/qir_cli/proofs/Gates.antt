@@ -1,58 +1,20 @@
--- The gates of a module of one block, line by line, and where their functions stand in the lowered module.
-use Rattle.std.proofs.Common.{◌≡◌, ◌⊎◌, inl, inr, ℕ, suc, ◌+◌, Bool, true, false, ◌||◌, List, [], ◌∷◌, ◌++◌, map, Some, refl, sym, ap, ◌∙◌, subst, arith, true≢false, eq-eqb}
+-- Where the functions of the gates stand in the lowered module.
+use Rattle.std.proofs.Common.{◌≡◌, ◌⊎◌, inl, inr, ℕ, suc, ◌+◌, Bool, true, false, ◌||◌, List, [], ◌∷◌, ◌++◌, map, Option, Some, None, refl, sym, ap, ◌∙◌, subst, arith, true≢false, eq-eqb}
 use Rattle.std.proofs.lemmas.Bool.Decides.{eqb_tells}
 use Rattle.std.specs.List.{flat_map}
 use Rattle.std.specs.Prelude.{◌==◌, ◌≢◌, IsTrue, slice_get, if◌then◌else◌}
 use Rattle.ir_module.specs.declared.tree.Function.{Function}
+use Rattle.ir_module.specs.declared.tree.Inst.{Inst}
 use Rattle.ir_module.specs.declared.tree.Module.{Module}
-use Rattle.ir_reader.specs.declared.line.Gate.TheVariants.{H, X, Z}
-use Rattle.ir_reader.specs.declared.line.Line.{Line}
-use Rattle.ir_reader.specs.declared.line.Line.TheVariants.{Allocate, Release, Apply, Cnot}
-use Rattle.ir_reader.specs.declared.line.Qubit.{Qubit}
-use Rattle.ir_reader.specs.FirstText.{Scope, after_line}
-use Rattle.ir_reader.specs.FirstTree.{gate_function, function_id, insts_of, declarations}
-use Rattle.ir_values.specs.declared.ids.FuncId.{FuncId}
-use Rattle.qir_cli.specs.BaseGates.{GateCall, gate_of, is_called, first_calls}
-use Rattle.qir_cli.specs.BaseTree.{number_among}
-use Rattle.qir_cli.proofs.Moves.{apply, cnot, numbers}
-use Rattle.qir_cli.proofs.Scopes.{or-left, or-right}
-
-abbrev pub gate_call : ℕ → Scope → FuncId → Function → List Qubit → GateCall
-gate_call k scope f g qs = record { number = f.0; callee = g; qubits = numbers k scope qs }
-
-abbrev pub gates : ℕ → Scope → List Line → List GateCall
-gates k scope [] = []
-gates k scope (Allocate n ∷ lines) = gates k (after_line scope (Allocate n)) lines
-gates k scope (Release n ∷ lines) = gates k (after_line scope (Release n)) lines
-gates k scope (Apply g q ∷ lines) = gate_call k scope (gate_function g) (apply g) (q ∷ []) ∷ gates k scope lines
-gates k scope (Cnot p q ∷ lines) = gate_call k scope (function_id 10) cnot (p ∷ q ∷ []) ∷ gates k scope lines
-
-abbrev pub module_of : Function → Module
-module_of f = record { globals = []; funcs = f ∷ declarations; flags = [] }
-
--- they are those of the tree
-pub gates-are : (f : Function) (k : ℕ) (scope : Scope) (lines : List Line) → flat_map (gate_of (module_of f) k) (insts_of scope lines) ≡ gates k scope lines
-gates-are f k scope [] = refl
-gates-are f k scope (Allocate n ∷ lines) = gates-are f k (after_line scope (Allocate n)) lines
-gates-are f k scope (Release n ∷ lines) = gates-are f k (after_line scope (Release n)) lines
-gates-are f k scope (Apply H q ∷ lines) = ap (λ l. gate_call k scope (gate_function H) (apply H) (q ∷ []) ∷ l) (gates-are f k scope lines)
-gates-are f k scope (Apply X q ∷ lines) = ap (λ l. gate_call k scope (gate_function X) (apply X) (q ∷ []) ∷ l) (gates-are f k scope lines)
-gates-are f k scope (Apply Z q ∷ lines) = ap (λ l. gate_call k scope (gate_function Z) (apply Z) (q ∷ []) ∷ l) (gates-are f k scope lines)
-gates-are f k scope (Cnot p q ∷ lines) = ap (λ l. gate_call k scope (function_id 10) cnot (p ∷ q ∷ []) ∷ l) (gates-are f k scope lines)
+use Rattle.qir_cli.specs.BaseGates.{GateCall, applies, gate_by, gate_in, gate_of, is_called, first_calls, qubit_number}
+use Rattle.qir_cli.specs.BaseTree.{number_among, declared_gate}
+use Rattle.qir_cli.specs.OneBlock.{DirectCall, call_of, role_of}
+use Rattle.qir_cli.proofs.Held.{or-left, or-right}
 
 -- each callee is the function of its number
 abbrev pub Known : List Function → List GateCall → Type 0
 Known fs [] = Unit {0}
 Known fs (g ∷ gs) = (slice_get fs g.number ≡ Some g.callee) × Known fs gs
-
-pub gates-known : (f : Function) (k : ℕ) (scope : Scope) (lines : List Line) → Known (f ∷ declarations) (gates k scope lines)
-gates-known f k scope [] = tt
-gates-known f k scope (Allocate n ∷ lines) = gates-known f k (after_line scope (Allocate n)) lines
-gates-known f k scope (Release n ∷ lines) = gates-known f k (after_line scope (Release n)) lines
-gates-known f k scope (Apply H q ∷ lines) = (refl, gates-known f k scope lines)
-gates-known f k scope (Apply X q ∷ lines) = (refl, gates-known f k scope lines)
-gates-known f k scope (Apply Z q ∷ lines) = (refl, gates-known f k scope lines)
-gates-known f k scope (Cnot p q ∷ lines) = (refl, gates-known f k scope lines)
 
 known-append : (fs : List Function) (gs hs : List GateCall) → Known fs gs → Known fs hs → Known fs (gs ++ hs)
 known-append fs [] hs k l = l
@@ -60,6 +22,23 @@ known-append fs (g ∷ gs) hs k l = (k.0, known-append fs gs hs k.1 l)
 
 abbrev with_first : Bool → List GateCall → GateCall → List GateCall
 with_first c earlier g = if c then earlier else earlier ++ g ∷ []
+
+module _ (m : Module) (k : ℕ) where
+  by-function : (c : DirectCall) (o : Option Function) → slice_get m.funcs c.function ≡ o → Known m.funcs (gate_by k c o)
+  by-function c None e = tt
+  by-function c (Some f) e = by-role (applies (role_of f))
+    where
+      by-role : (b : Bool) → Known m.funcs (if b then (record { number = c.function; callee = f; qubits = map (λ a. qubit_number k a.1) c.args }) ∷ [] else [])
+      by-role true = (e, tt)
+      by-role false = tt
+
+  by-call : (o : Option DirectCall) → Known m.funcs (gate_in m k o)
+  by-call None = tt
+  by-call (Some c) = by-function c (slice_get m.funcs c.function) refl
+
+  pub gates-known : (insts : List Inst) → Known m.funcs (flat_map (gate_of m k) insts)
+  gates-known [] = tt
+  gates-known (x ∷ insts) = known-append m.funcs (gate_of m k x) (flat_map (gate_of m k) insts) (by-call (call_of x.what)) (gates-known insts)
 
 known-first : (fs : List Function) (earlier gs : List GateCall) → Known fs earlier → Known fs gs → Known fs (first_calls earlier gs)
 known-first fs earlier [] k l = k
@@ -103,27 +82,34 @@ all-called earlier (g ∷ gs) =
     by-case true h = h
     by-case false h = called-last earlier g
 
-among : (fs : List Function) (used : List GateCall) (n : ℕ) (f : Function) → Known fs used → IsTrue (is_called used n) → slice_get fs n ≡ Some f → slice_get (map (λ g. g.callee) used) (number_among used n) ≡ Some f
+abbrev without_attrs : Function → Function
+without_attrs f = record f { attrs = []; }
+
+abbrev bare : Option Function → Option Function
+bare None = None
+bare (Some f) = Some (without_attrs f)
+
+among : (fs : List Function) (used : List GateCall) (n : ℕ) (f : Function) → Known fs used → IsTrue (is_called used n) → slice_get fs n ≡ Some f → slice_get (map declared_gate used) (number_among used n) ≡ Some (without_attrs f)
 among fs [] n f k c h = absurd (true≢false (sym c))
 among fs (g ∷ used) n f k c h = by-case (λ c'. among fs used n f k.1 c' h) (eqb_tells g.number n)
   where
-    by-case : (IsTrue (is_called used n) → slice_get (map (λ g. g.callee) used) (number_among used n) ≡ Some f) → (((g.number == n) ≡ true) × (g.number ≡ n)) ⊎ (((g.number == n) ≡ false) × (g.number ≢ n)) → slice_get (map (λ g. g.callee) (g ∷ used)) (number_among (g ∷ used) n) ≡ Some f
-    by-case ih (inl t) = ap (λ b. slice_get (map (λ g. g.callee) (g ∷ used)) (if b then 0 else number_among used n + 1)) t.0 ∙ sym k.0 ∙ ap (slice_get fs) t.1 ∙ h
+    by-case : (IsTrue (is_called used n) → slice_get (map declared_gate used) (number_among used n) ≡ Some (without_attrs f)) → (((g.number == n) ≡ true) × (g.number ≡ n)) ⊎ (((g.number == n) ≡ false) × (g.number ≢ n)) → slice_get (map declared_gate (g ∷ used)) (number_among (g ∷ used) n) ≡ Some (without_attrs f)
+    by-case ih (inl t) = ap (λ b. slice_get (map declared_gate (g ∷ used)) (if b then 0 else number_among used n + 1)) t.0 ∙ ap bare (sym k.0 ∙ ap (slice_get fs) t.1 ∙ h)
     by-case ih (inr t) =
         let e : number_among used n + 1 ≡ suc (number_among used n) = omega arith in
-        ap (λ b. slice_get (map (λ g. g.callee) (g ∷ used)) (if b then 0 else number_among used n + 1)) t.0 ∙ ap (slice_get (map (λ g. g.callee) (g ∷ used))) e
+        ap (λ b. slice_get (map declared_gate (g ∷ used)) (if b then 0 else number_among used n + 1)) t.0 ∙ ap (slice_get (map declared_gate (g ∷ used))) e
         ∙ ih (subst (λ b. IsTrue (b || is_called used n)) t.0 c)
 
 -- each gate's function stands in the lowered module, after its entry and one declaration
 abbrev pub AllFound : List Function → List GateCall → List GateCall → Type 0
 AllFound fs used [] = Unit {0}
-AllFound fs used (g ∷ gs) = (slice_get fs (number_among used g.number + 2) ≡ Some g.callee) × AllFound fs used gs
+AllFound fs used (g ∷ gs) = (slice_get fs (number_among used g.number + 2) ≡ Some (declared_gate g)) × AllFound fs used gs
 
-found-each : (fs : List Function) (a b : Function) (used gs : List GateCall) → Known fs used → Known fs gs → AllCalled used gs → AllFound (a ∷ b ∷ map (λ g. g.callee) used) used gs
+found-each : (fs : List Function) (a b : Function) (used gs : List GateCall) → Known fs used → Known fs gs → AllCalled used gs → AllFound (a ∷ b ∷ map declared_gate used) used gs
 found-each fs a b used [] k l c = tt
 found-each fs a b used (g ∷ gs) k l c =
     let e : number_among used g.number + 2 ≡ suc (suc (number_among used g.number)) = omega arith in
-    (ap (slice_get (a ∷ b ∷ map (λ g. g.callee) used)) e ∙ among fs used g.number g.callee k c.0 l.0, found-each fs a b used gs k l.1 c.1)
+    (ap (slice_get (a ∷ b ∷ map declared_gate used)) e ∙ among fs used g.number g.callee k c.0 l.0, found-each fs a b used gs k l.1 c.1)
 
-pub all-found : (fs : List Function) (a b : Function) (gs : List GateCall) → Known fs gs → AllFound (a ∷ b ∷ map (λ g. g.callee) (first_calls [] gs)) (first_calls [] gs) gs
+pub all-found : (fs : List Function) (a b : Function) (gs : List GateCall) → Known fs gs → AllFound (a ∷ b ∷ map declared_gate (first_calls [] gs)) (first_calls [] gs) gs
 all-found fs a b gs k = found-each fs a b (first_calls [] gs) gs (known-first fs [] gs tt k) k (all-called [] gs)

@@ -1,16 +1,19 @@
-pub mod Answering
 pub mod BaseBehaviour
 mod Below
 pub mod Calls
+pub mod Entries
 mod Follow
 mod Gates
+pub mod Held
+pub mod Insts
 mod Moves
-pub mod Numbers
-pub mod OneAnswer
-pub mod Programs
-mod Scopes
+pub mod OneBlocks
+pub mod Places
+pub mod Reading
+pub mod Replying
 pub mod Sending
 mod Source
+pub mod Stages
 pub mod WholeText
 mod Worked
 mod WorkedRuns

@@ -1,11 +1,13 @@
 -- What single instructions of modules of one block do.
-use Rattle.std.proofs.Common.{◌≡◌, ℕ, zero, suc, ◌+◌, ◌-◌, Bool, List, [], ◌∷◌, ◌++◌, length, map, Option, Some, None, refl, sym, ap, ◌∙◌, subst, arith}
+use Rattle.std.proofs.Common.{◌≡◌, ℕ, zero, suc, ◌+◌, ◌-◌, Bool, true, false, List, [], ◌∷◌, ◌++◌, length, map, Option, Some, None, refl, sym, ap, ◌∙◌, subst, arith, true≢false}
 use Rattle.std.proofs.lemmas.Option.{slice_get_past}
-use Rattle.std.specs.Prelude.{IsTrue, slice_get, codes, if◌then◌else◌}
+use Rattle.std.specs.List.{list_all}
+use Rattle.std.specs.Prelude.{◌&&◌, IsTrue, slice_get, codes, if◌then◌else◌}
 use Rattle.backend_api.specs.declared.operation.Arg.{Arg}
 use Rattle.backend_api.specs.declared.operation.Arg.TheVariants as arg
 use Rattle.backend_api.specs.declared.operation.QubitRef.{QubitRef}
 use Rattle.backend_api.specs.declared.operation.QubitRef.TheVariants as qubit
+use Rattle.backend_api.specs.Naming.{named_arg}
 use Rattle.ir_module.specs.declared.places.Point.{Point}
 use Rattle.ir_module.specs.declared.tree.Block.{Block}
 use Rattle.ir_module.specs.declared.tree.Callee.TheVariants as callee
@@ -17,12 +19,6 @@ use Rattle.ir_module.specs.declared.tree.Operand.{Operand}
 use Rattle.ir_module.specs.declared.tree.Operand.TheVariants as operand
 use Rattle.ir_module.specs.declared.tree.Term.{Term}
 use Rattle.ir_module.specs.Steps.{Step, InstAt, TermAt, NoStep, step_at}
-use Rattle.ir_reader.specs.declared.line.Gate.{Gate}
-use Rattle.ir_reader.specs.declared.line.Gate.TheVariants.{H, X, Z}
-use Rattle.ir_reader.specs.declared.line.Qubit.{Qubit}
-use Rattle.ir_reader.specs.declared.line.Qubit.TheVariants.{Named, Numbered}
-use Rattle.ir_reader.specs.FirstText.{Scope, qubit_fits}
-use Rattle.ir_reader.specs.FirstTree.{number_of, qubit_operand, declaration}
 use Rattle.ir_values.specs.declared.ty.Ty.{Ty}
 use Rattle.ir_values.specs.declared.ty.Ty.TheVariants as ty
 use Rattle.ir_values.specs.declared.class.Class.{Class}
@@ -32,19 +28,21 @@ use Rattle.ir_values.specs.declared.ids.LocalId.{LocalId}
 use Rattle.ir_values.specs.declared.name.Name.{Name}
 use Rattle.ir_values.specs.declared.value.Value.{Value}
 use Rattle.ir_values.specs.declared.value.Value.TheVariants as value
-use Rattle.ir_values.specs.Calls.{class_of, rt, qis}
+use Rattle.ir_values.specs.Calls.{class_of}
+use Rattle.qir_cli.specs.BaseGates.{qubit_number}
+use Rattle.qir_cli.specs.BaseTree.{initialize}
+use Rattle.qir_cli.specs.OneBlock.{is_qubit, is_qubit_type, names_qubit}
+use Rattle.qir_cli.proofs.Held.{and-left, and-right, AreHeld, Allocated, allocated-value, held-within}
 use Rattle.qir_meaning.specs.Effects.{argument, arguments, declared_call}
 use Rattle.ir_values.specs.Names.{name_text}
 use Rattle.ir_module.specs.Classes.{class_of_function}
 use Rattle.qir_meaning.specs.Moves.{does, performs, declared, with_body, calls, with_values}
-use Rattle.backend_api.specs.Naming.{named_arg}
 use Rattle.qir_meaning.specs.Naming.{fixed_naming}
 use Rattle.qir_meaning.specs.State.{Env, State, Move, value_of, values_of, one_more}
-use Rattle.qir_cli.specs.BaseGates.{qubit_number}
-use Rattle.qir_cli.proofs.Scopes.{AreHeld, Allocated, allocated-value, holds, usable-held, usable-number}
 
-abbrev pub at : ℕ → ℕ → Point
-at b i = record { func = record { 0 = 0 }; block = record { 0 = b }; index = i }
+-- a point of function number f
+abbrev pub at : ℕ → ℕ → ℕ → Point
+at f b i = record { func = record { 0 = f }; block = record { 0 = b }; index = i }
 
 abbrev or-else : {A : Type 0} → Option A → (A → Step) → Step → Step
 or-else None f s = s
@@ -107,112 +105,89 @@ module _ (m : Module) (p : Point) (env : Env) (st : State) (x : Option LocalId) 
       ∙ ap (λ o. with_body m p env st x g f o ts vs) hb
       ∙ ap (λ o. declared m p env st x f o ts vs) hc
 
--- the declarations that are called
-abbrev pub initialize : Function
-initialize = declaration (rt (codes "initialize")) ty.Void (ty.Text ∷ []) []
-
-abbrev pub allocate : Function
-allocate = declaration (rt (codes "qubit_allocate")) ty.Qubit [] []
-
-abbrev pub release : Function
-release = declaration (rt (codes "qubit_release")) ty.Void (ty.Qubit ∷ []) []
-
-abbrev pub apply : Gate → Function
-apply H = declaration (qis (codes "h__body")) ty.Void (ty.Qubit ∷ []) []
-apply X = declaration (qis (codes "x__body")) ty.Void (ty.Qubit ∷ []) []
-apply Z = declaration (qis (codes "z__body")) ty.Void (ty.Qubit ∷ []) []
-
-abbrev pub cnot : Function
-cnot = declaration (qis (codes "cnot__body")) ty.Void (ty.Qubit ∷ ty.Qubit ∷ []) []
-
 pub class-initialize : class_of_function initialize ≡ Some class.Init
 unfolding class_of
 class-initialize = refl
 
-pub class-allocate : class_of_function allocate ≡ Some class.Alloc
-unfolding class_of
-class-allocate = refl
+-- the values and the qubits that operands name
+abbrev pub operand_value : Operand → Value
+operand_value (operand.Const v) = v
+operand_value (operand.Local x) = value.Alloc x.0
 
-pub class-release : class_of_function release ≡ Some class.Release
-unfolding class_of
-class-release = refl
+abbrev const_ref : Value → QubitRef
+const_ref (value.Id n) = qubit.Id n
+const_ref v = qubit.Id 0
 
-pub class-apply : (g : Gate) → class_of_function (apply g) ≡ Some class.Gate
-unfolding class_of
-class-apply H = refl
-class-apply X = refl
-class-apply Z = refl
+abbrev pub operand_ref : Operand → QubitRef
+operand_ref (operand.Const v) = const_ref v
+operand_ref (operand.Local x) = qubit.Alloc x.0
 
-pub class-cnot : class_of_function cnot ≡ Some class.Gate
-unfolding class_of
-class-cnot = refl
+abbrev pub Args : Type 0
+Args = List (Ty × Operand)
 
-pub apply-blocks : (g : Gate) → (apply g).blocks ≡ None
-apply-blocks H = refl
-apply-blocks X = refl
-apply-blocks Z = refl
+abbrev pub arg_values : Args → List Value
+arg_values args = map (λ a. operand_value a.1) args
 
--- the qubits of a line
-abbrev pub qubit_value : Scope → Qubit → Value
-qubit_value scope (Named n) = value.Alloc (number_of scope n)
-qubit_value scope (Numbered n) = value.Id n
+abbrev pub refs : Args → List Arg
+refs args = map (λ a. arg.Qubit (operand_ref a.1)) args
 
-abbrev pub qubit_ref : Scope → Qubit → QubitRef
-qubit_ref scope (Named n) = qubit.Alloc (number_of scope n)
-qubit_ref scope (Numbered n) = qubit.Id n
-
-abbrev pub refs : Scope → List Qubit → List Arg
-refs scope qs = map (λ q. arg.Qubit (qubit_ref scope q)) qs
-
-abbrev pub pair : Operand → Ty × Operand
-pair a = (ty.Qubit, a)
-
-abbrev pub pairs : Scope → List Qubit → List (Ty × Operand)
-pairs scope qs = map pair (map (qubit_operand scope) qs)
-
-abbrev pub AllFit : ℕ → Scope → List Qubit → Type 0
-AllFit k scope [] = Unit {0}
-AllFit k scope (q ∷ qs) = IsTrue (qubit_fits k scope q) × AllFit k scope qs
+abbrev pub numbers : ℕ → Args → List ℕ
+numbers k args = map (λ a. qubit_number k a.1) args
 
 abbrev pub handle : ℕ → Ty × Operand
 handle n = (ty.Qubit, operand.Const (value.Id n))
 
-abbrev pub numbers : ℕ → Scope → List Qubit → List ℕ
-numbers k scope qs = map (λ q. qubit_number k (qubit_operand scope q)) qs
+module _ (k : ℕ) (held : List Bool) where
+  abbrev pub AllFit : Args → Type 0
+  AllFit args = IsTrue (list_all (is_qubit k held) args)
 
-module _ (k : ℕ) (scope : Scope) where
-  qubit-has : (env : Env) (d more : ℕ) → Allocated env d more → d ≡ length scope → (q : Qubit) → IsTrue (qubit_fits k scope q) → value_of env (qubit_operand scope q) ≡ Some (qubit_value scope q)
-  qubit-has env d more a e (Named n) h = allocated-value env d more (number_of scope n) a (let u = usable-number scope n h in omega (arith, e, u))
-  qubit-has env d more a e (Numbered n) h = refl
+  pub fits-first : (a : Ty × Operand) (args : Args) → AllFit (a ∷ args) → IsTrue (is_qubit k held a)
+  fits-first a args h = and-left (is_qubit k held a) (list_all (is_qubit k held) args) h
 
-  pub qubits-have : (env : Env) (d more : ℕ) → Allocated env d more → d ≡ length scope → (qs : List Qubit) → AllFit k scope qs → values_of env (map (λ a. a.1) (pairs scope qs)) ≡ Some (map (qubit_value scope) qs)
-  qubits-have env d more a e [] h = refl
-  qubits-have env d more a e (q ∷ qs) h =
-      ap (λ o. one_more o (values_of env (map (λ a. a.1) (pairs scope qs)))) (qubit-has env d more a e q h.0) ∙ ap (one_more (Some (qubit_value scope q))) (qubits-have env d more a e qs h.1)
+  pub fits-rest : (a : Ty × Operand) (args : Args) → AllFit (a ∷ args) → AllFit args
+  fits-rest a args h = and-right (is_qubit k held a) (list_all (is_qubit k held) args) h
+
+  operand-has : (env : Env) (d names : ℕ) → Allocated env d names → d ≡ length held → (o : Operand) → IsTrue (names_qubit k held o) → value_of env o ≡ Some (operand_value o)
+  operand-has env d names a e (operand.Local x) h = allocated-value env d names x a (let w = held-within held x.0 h in omega (arith, e, w))
+  operand-has env d names a e (operand.Const v) h = refl
+
+  pub values-have : (env : Env) (d names : ℕ) → Allocated env d names → d ≡ length held → (args : Args) → AllFit args → values_of env (map (λ a. a.1) args) ≡ Some (arg_values args)
+  values-have env d names a e [] h = refl
+  values-have env d names a e (x ∷ args) h =
+      ap (λ o. one_more o (values_of env (map (λ a. a.1) args))) (operand-has env d names a e x.1 (and-right (is_qubit_type x.0) (names_qubit k held x.1) (fits-first x args h)))
+      ∙ ap (one_more (Some (operand_value x.1))) (values-have env d names a e args (fits-rest x args h))
 
   if-true : {A : Type 0} (b : Bool) (x y : A) → IsTrue b → (if b then x else y) ≡ x
   if-true b x y h = ap (λ c. if c then x else y) h
 
-  qubit-passes : (st : State) → AreHeld 0 scope st.held → (q : Qubit) → IsTrue (qubit_fits k scope q) → (go : Arg → Move) → argument st ty.Qubit (qubit_value scope q) go ≡ go (arg.Qubit (qubit_ref scope q))
-  qubit-passes st a (Named n) h go =
-      let e : 0 + number_of scope n ≡ number_of scope n = omega arith in
-      if-true (holds st.held (number_of scope n)) _ _ (subst (λ j. IsTrue (holds st.held j)) e (usable-held 0 scope n st.held a h))
-  qubit-passes st a (Numbered n) h go = refl
+  value-passes : (st : State) (v : Value) → IsTrue (names_qubit k held (operand.Const v)) → (go : Arg → Move) → argument st ty.Qubit v go ≡ go (arg.Qubit (const_ref v))
+  value-passes st (value.Id n) h go = refl
+  value-passes st v h go = absurd (true≢false (sym h))
 
-  pub qubits-pass : (st : State) → AreHeld 0 scope st.held → (qs : List Qubit) → AllFit k scope qs → (go : List Arg → Move) → arguments st (map (λ a. a.0) (pairs scope qs)) (map (qubit_value scope) qs) go ≡ go (refs scope qs)
-  qubits-pass st a [] h go = refl
-  qubits-pass st a (q ∷ qs) h go =
-      qubit-passes st a q h.0 (λ x. arguments st (map (λ a. a.0) (pairs scope qs)) (map (qubit_value scope) qs) (λ xs. go (x ∷ xs)))
-      ∙ qubits-pass st a qs h.1 (λ xs. go (arg.Qubit (qubit_ref scope q) ∷ xs))
+  operand-passes : (st : State) → AreHeld held st.held → (t : Ty) (o : Operand) → IsTrue (is_qubit_type t && names_qubit k held o) → (go : Arg → Move) → argument st t (operand_value o) go ≡ go (arg.Qubit (operand_ref o))
+  operand-passes st are ty.Qubit (operand.Local x) h go = if-true _ _ _ (are x.0 h)
+  operand-passes st are ty.Qubit (operand.Const v) h go = value-passes st v h go
+  operand-passes st are t o h go = absurd (true≢false (sym h))
 
-  ref-named : (q : Qubit) → named_arg (fixed_naming k 0) (arg.Qubit (qubit_ref scope q)) ≡ arg.Qubit (qubit.Id (qubit_number k (qubit_operand scope q)))
-  ref-named (Named n) = refl
-  ref-named (Numbered n) = refl
+  pub args-pass : (st : State) → AreHeld held st.held → (args : Args) → AllFit args → (go : List Arg → Move) → arguments st (map (λ a. a.0) args) (arg_values args) go ≡ go (refs args)
+  args-pass st are [] h go = refl
+  args-pass st are (a ∷ args) h go =
+      operand-passes st are a.0 a.1 (fits-first a args h) (λ x. arguments st (map (λ a. a.0) args) (arg_values args) (λ xs. go (x ∷ xs)))
+      ∙ args-pass st are args (fits-rest a args h) (λ xs. go (arg.Qubit (operand_ref a.1) ∷ xs))
 
-  pub refs-named : (qs : List Qubit) → map (named_arg (fixed_naming k 0)) (refs scope qs) ≡ map (λ n. arg.Qubit (qubit.Id n)) (numbers k scope qs)
+module _ (k r : ℕ) where
+  const-named : (v : Value) → named_arg (fixed_naming k r) (arg.Qubit (const_ref v)) ≡ arg.Qubit (qubit.Id (qubit_number k (operand.Const v)))
+  const-named (value.Id n) = refl
+  const-named v = refl
+
+  ref-named : (o : Operand) → named_arg (fixed_naming k r) (arg.Qubit (operand_ref o)) ≡ arg.Qubit (qubit.Id (qubit_number k o))
+  ref-named (operand.Local x) = refl
+  ref-named (operand.Const v) = const-named v
+
+  pub refs-named : (args : Args) → map (named_arg (fixed_naming k r)) (refs args) ≡ map (λ n. arg.Qubit (qubit.Id n)) (numbers k args)
   refs-named [] = refl
-  refs-named (q ∷ qs) =
-      ap (λ x. x ∷ map (named_arg (fixed_naming k 0)) (refs scope qs)) (ref-named q) ∙ ap (λ xs. arg.Qubit (qubit.Id (qubit_number k (qubit_operand scope q))) ∷ xs) (refs-named qs)
+  refs-named (a ∷ args) =
+      ap (λ x. x ∷ map (named_arg (fixed_naming k r)) (refs args)) (ref-named a.1) ∙ ap (λ xs. arg.Qubit (qubit.Id (qubit_number k a.1)) ∷ xs) (refs-named args)
 
 pub handles-have : (env : Env) (ns : List ℕ) → values_of env (map (λ a. a.1) (map handle ns)) ≡ Some (map value.Id ns)
 handles-have env [] = refl

@@ -3,35 +3,49 @@ use Rattle.std.proofs.Common.{◌≡◌, ◌∙◌, ℕ, ◌+◌, ◌<◌, List,
 use Rattle.std.specs.Prelude.{Option, None, Some, Result, Ok, Err, IfOk, IfSome}
 use Rattle.std.specs.Option.{option_map}
 use Rattle.std.proofs.lemmas.List.{take-append-drop, length-replicate, length-take}
+use Rattle.ir_values.specs.Counts.{Rose}
 use Rattle.ir_values.specs.declared.memory.Memory.{Memory as NoMemory}
 use Rattle.qir_ports.specs.Known.{GivesTooMany, GivesUpTo}
+use Rattle.qir_cli.specs.code.Stops.{Writes, whole, in_part, Sends}
+use Rattle.qir_cli.specs.Commands.{command_of}
 use Rattle.qir_cli.specs.declared.command.Command.{Command}
 use Rattle.qir_cli.specs.declared.command.Command.TheVariants.{LowerBase}
+use Rattle.qir_cli.specs.declared.refusal.Fault.TheVariants.{TooLong}
+use Rattle.qir_cli.specs.declared.refusal.Refusal.{Refusal}
 use Rattle.qir_cli.specs.declared.reply.Reply.{Reply}
 use Rattle.qir_cli.specs.declared.status.Status.{Status}
 use Rattle.qir_cli.specs.declared.status.Status.TheVariants.{Done, Refused, BadWords, Stopped, ReadFault, WriteFault, Memory}
-use Rattle.qir_cli.specs.Answers.{Answer, LowerAnswer, too_long, other_text, over_budget, lowered, limit, too_long_line}
-use Rattle.qir_cli.specs.Commands.{command_of}
-use Rattle.qir_cli.specs.Outcomes.{Answered, PartlyAnswered, Writes, whole, in_part, Sends, IsAnswered, IsUnwritten}
+use Rattle.qir_cli.specs.Outcomes.{Answered, HasReply, IsAnswered, IsUnwritten, PartlyAnswered, WritesAtOnce}
+use Rattle.qir_cli.specs.Refusals.{at_start}
+use Rattle.qir_cli.specs.Replies.{ComesTo, limit, Lowers, LowersParsed, LowersText, Replies, reply_of, too_long, within_limit}
+use Rattle.qir_cli.specs.Stages.{Is, Then, refuses, leads_on}
+use Rattle.qir_cli.proofs.Replying.{too-long-is}
 
--- an answer has one of two statuses
-answer-status : (budget : ℕ) (bytes : List ℕ) (s : Status) (text : List ℕ) → LowerAnswer budget bytes s text → IsAnswered s
-answer-status budget bytes s text (too_long long) = tt
-answer-status budget bytes s text (other_text short other) = tt
-answer-status budget bytes s text (over_budget short first many) = tt
-answer-status budget bytes s text (lowered short first few same apart runs lowered_runs) = tt
+-- what a command comes to has one of the statuses of replies
+lowers-answered : (budget : ℕ) (bytes : List ℕ) (end : Result Reply Refusal) → Then (Is (within_limit bytes)) (LowersText budget) end → IsAnswered (reply_of end).status
+lowers-answered budget bytes end (refuses why f) = tt
+lowers-answered budget bytes end (leads_on text end' f (refuses why g)) = tt
+lowers-answered budget bytes end (leads_on text end' f (leads_on parsed end'' g (refuses why h))) = tt
+lowers-answered budget bytes end (leads_on text end' f (leads_on parsed end'' g (leads_on e end3 h last))) = by end3 last
+  where
+    by : (end : Result Reply Refusal) → Lowers budget parsed.module e end → IsAnswered (reply_of end).status
+    by (Ok reply) l = subst IsAnswered (sym l.status) tt
+    by (Err why) l = absurd l
 
-pub Answer-IsAnswered : (command : Command) (bytes : List ℕ) (s : Status) (text : List ℕ) → Answer command bytes s text → IsAnswered s
-Answer-IsAnswered (LowerBase budget) bytes s text a = answer-status budget bytes s text a
+comes-answered : (command : Command) (bytes : List ℕ) (end : Result Reply Refusal) → ComesTo command bytes end → IsAnswered (reply_of end).status
+comes-answered (LowerBase budget) bytes end c = lowers-answered budget bytes end c
 
-pub not_both : (s : Status) → IsAnswered s → IsUnwritten s → ⊥
-not_both Done a u = u
-not_both Refused a u = u
-not_both BadWords a u = a
-not_both Stopped a u = u
-not_both ReadFault a u = a
-not_both WriteFault a u = a
-not_both Memory a u = a
+pub replies-answered : (command : Command) (bytes : List ℕ) (reply : Reply) → Replies command bytes reply → IsAnswered reply.status
+replies-answered command bytes reply r = subst (λ r. IsAnswered r.status) (sym r.2) (comes-answered command bytes r.0 r.1)
+
+pub not_both : (words : List (List ℕ)) (s : Status) → IsAnswered s → IsUnwritten words s → ⊥
+not_both words Done a u = u
+not_both words Refused a u = u
+not_both words BadWords a u = a
+not_both words Stopped a u = u
+not_both words ReadFault a u = a
+not_both words WriteFault a u = a
+not_both words Memory a u = a
 
 pub not_fault : (s : Status) → IsAnswered s → s ≡ WriteFault → ⊥
 not_fault s a e = subst IsAnswered e a
@@ -39,36 +53,61 @@ not_fault s a e = subst IsAnswered e a
 pub not_bad : (s : Status) → IsAnswered s → s ≡ BadWords → ⊥
 not_bad s a e = subst IsAnswered e a
 
+pub not_read : (s : Status) → IsAnswered s → s ≡ ReadFault → ⊥
+not_read s a e = subst IsAnswered e a
+
 -- what a status says once a reply was sent
-pub record Sent (words : List (List ℕ)) (left taken taken' : Option (List ℕ)) (unchanged : Type 0) (s : Status) : Type 0 where
-  pub unwritten : IsUnwritten s → unchanged
+pub record Sent (words : List (List ℕ)) (left taken taken' : Option (List ℕ)) (faults faults' : ℕ) (unchanged : Type 0) (s : Status) : Type 0 where
+  pub no_bad_words : s ≡ BadWords → ⊥
+  pub no_read_fault : s ≡ ReadFault → ⊥
+  pub counted : s ≡ WriteFault → Rose faults faults'
+  pub unwritten : IsUnwritten words s → unchanged
   pub answered : IsAnswered s → Answered words left taken taken' s
   pub partly : s ≡ WriteFault → PartlyAnswered words left taken taken'
 
 module _ (words : List (List ℕ)) (command : Command) (is_command : command_of words ≡ Some command) (left : Option (List ℕ)) (bytes : List ℕ)
     (input : IfSome left (λ all. all ≡ bytes)) (taken taken' : Option (List ℕ)) (faults faults' : ℕ) where
-  writes-unwritten : (r : Reply) (s : Status) → Answer command bytes r.status r.text → Writes r taken taken' faults faults' s → IsUnwritten s → ⊥
-  writes-unwritten r s answer (whole takes) u = not_both r.status (Answer-IsAnswered command bytes r.status r.text answer) u
-  writes-unwritten r s answer (in_part few takes rose) u = u
+  abbrev has : (r : Reply) → Replies command bytes r → HasReply words left
+  has r replies = record { command = command; is_command = is_command; bytes = bytes; input = input; reply = r; replies = replies }
 
-  writes-answered : (r : Reply) (s : Status) → Answer command bytes r.status r.text → Writes r taken taken' faults faults' s → IsAnswered s → Answered words left taken taken' s
-  writes-answered r s answer (whole takes) a =
-      record { command = command; is_command = is_command; bytes = bytes; input = input; text = r.text; answer = answer; written = takes }
-  writes-answered r s answer (in_part few takes rose) a = absurd a
+  writes-unwritten : (r : Reply) (s : Status) → Replies command bytes r → Writes r taken taken' faults faults' s → IsUnwritten words s → ⊥
+  writes-unwritten r s replies (whole takes) u = not_both words r.status (replies-answered command bytes r replies) u
+  writes-unwritten r s replies (in_part few takes rose) u = u
 
-  writes-partly : (r : Reply) (s : Status) → Answer command bytes r.status r.text → Writes r taken taken' faults faults' s → s ≡ WriteFault → PartlyAnswered words left taken taken'
-  writes-partly r s answer (whole takes) e = absurd (not_fault r.status (Answer-IsAnswered command bytes r.status r.text answer) e)
-  writes-partly r s answer (in_part {count} few takes rose) e =
-      record { command = command; is_command = is_command; bytes = bytes; input = input; status = r.status; text = r.text; answer = answer; count = count; not_all = few; written = takes }
+  writes-answered : (r : Reply) (s : Status) → Replies command bytes r → Writes r taken taken' faults faults' s → IsAnswered s → Answered words left taken taken' s
+  writes-answered r s replies (whole takes) a = record { has = has r replies; is_status = refl; written = takes }
+  writes-answered r s replies (in_part few takes rose) a = absurd a
 
-  pub sent : (unchanged : Type 0) (r : Result Reply NoMemory) (s : Status) → IfOk r (λ r. Answer command bytes r.status r.text)
-      → Sends r taken taken' faults faults' unchanged s → Sent words left taken taken' unchanged s
-  sent unchanged (Ok r) s answer sends = record {
-    unwritten = λ u. absurd (writes-unwritten r s answer sends u);
-    answered = writes-answered r s answer sends;
-    partly = writes-partly r s answer sends;
+  writes-partly : (r : Reply) (s : Status) → Replies command bytes r → Writes r taken taken' faults faults' s → s ≡ WriteFault → PartlyAnswered words left taken taken'
+  writes-partly r s replies (whole takes) e = absurd (not_fault r.status (replies-answered command bytes r replies) e)
+  writes-partly r s replies (in_part {count} few takes rose) e = record { has = has r replies; count = count; not_all = few; written = takes }
+
+  writes-not-bad : (r : Reply) (s : Status) → Replies command bytes r → Writes r taken taken' faults faults' s → s ≡ BadWords → ⊥
+  writes-not-bad r s replies (whole takes) e = not_bad r.status (replies-answered command bytes r replies) e
+  writes-not-bad r s replies (in_part few takes rose) e = cc
+
+  writes-not-read : (r : Reply) (s : Status) → Replies command bytes r → Writes r taken taken' faults faults' s → s ≡ ReadFault → ⊥
+  writes-not-read r s replies (whole takes) e = not_read r.status (replies-answered command bytes r replies) e
+  writes-not-read r s replies (in_part few takes rose) e = cc
+
+  writes-counted : (r : Reply) (s : Status) → Replies command bytes r → Writes r taken taken' faults faults' s → s ≡ WriteFault → Rose faults faults'
+  writes-counted r s replies (whole takes) e = absurd (not_fault r.status (replies-answered command bytes r replies) e)
+  writes-counted r s replies (in_part few takes rose) e = rose
+
+  pub sent : (unchanged : Type 0) (r : Result Reply NoMemory) (s : Status) → IfOk r (λ r. Replies command bytes r)
+      → Sends r taken taken' faults faults' unchanged s → Sent words left taken taken' faults faults' unchanged s
+  sent unchanged (Ok r) s replies sends = record {
+    no_bad_words = writes-not-bad r s replies sends;
+    no_read_fault = writes-not-read r s replies sends;
+    counted = writes-counted r s replies sends;
+    unwritten = λ u. absurd (writes-unwritten r s replies sends u);
+    answered = writes-answered r s replies sends;
+    partly = writes-partly r s replies sends;
   }
-  sent unchanged (Err x) s answer sends = record {
+  sent unchanged (Err x) s replies sends = record {
+    no_bad_words = λ e. cc sends.1;
+    no_read_fault = λ e. cc sends.1;
+    counted = λ e. cc sends.1;
     unwritten = λ _. sends.0;
     answered = λ a. absurd (subst IsAnswered sends.1 a);
     partly = λ e. cc sends.1;
@@ -82,11 +121,13 @@ pub long_input : (left : Option (List ℕ)) → IfSome left (λ all. limit < len
 long_input None long = let some = long_bytes limit in (some.0, some.1, tt)
 long_input (Some all) long = (all, long, refl)
 
-pub too_long-answer : (command : Command) (bytes : List ℕ) → limit < length bytes → (r : Result Reply NoMemory) → IfOk r (λ r. r.text ≡ too_long_line)
-    → IfOk r (λ r. r.status ≡ Refused) → IfOk r (λ r. Answer command bytes r.status r.text)
-too_long-answer (LowerBase budget) bytes long (Ok r) text status =
-    subst (λ s. LowerAnswer budget bytes s r.text) (sym status) (subst (LowerAnswer budget bytes Refused) (sym text) (too_long long))
-too_long-answer (LowerBase budget) bytes long (Err e) text status = text
+too-long-comes : (command : Command) (bytes : List ℕ) → limit < length bytes → ComesTo command bytes (Err (at_start TooLong))
+too-long-comes (LowerBase budget) bytes long = refuses (at_start TooLong) (too-long-is bytes long)
+
+pub too-long-replies : (command : Command) (bytes : List ℕ) → limit < length bytes → (r : Result Reply NoMemory) → IfOk r (λ r. r ≡ too_long)
+    → IfOk r (λ r. Replies command bytes r)
+too-long-replies command bytes long (Ok r) is = (Err (at_start TooLong), too-long-comes command bytes long, is)
+too-long-replies command bytes long (Err e) is = is
 
 pub GivesUpTo-too_many : (most : ℕ) (before now : Option (List ℕ)) → GivesTooMany most before now → GivesUpTo (most + 1) before now
 GivesUpTo-too_many most None now gives = ([], omega arith, ap (option_map (λ rest. [] ++ rest)) (sym gives.rest))

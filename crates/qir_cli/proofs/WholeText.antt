@@ -1,16 +1,15 @@
 -- The lowered text from its parts.
 use Rattle.std.proofs.Common.{◌≡◌, ◌∙◌, ℕ, ◌+◌, List, [], ◌∷◌, ◌++◌, refl, ap, sym, subst, map, length, append_assoc}
-use Rattle.std.specs.Prelude.{Some}
 use Rattle.std.specs.List.{flat_map}
 use Rattle.std.proofs.lemmas.Grind.{flat_map-append}
 use Rattle.ir_module.specs.declared.tree.Function.{Function}
 use Rattle.ir_module.specs.declared.tree.Inst.{Inst}
 use Rattle.ir_module.specs.declared.tree.Module.{Module}
-use Rattle.ir_reader.specs.FirstText.{lines_text}
 use Rattle.qir_cli.specs.declared.base_lowering.Lowered.{Lowered}
-use Rattle.qir_cli.specs.BaseCode.{Wrote, gates_text, declares_text, gate_text, declare_text}
-use Rattle.qir_cli.specs.BaseGates.{GateCall, main_of, gates_of, used_gates, own_qubits, allocations, locals_of_main, block_insts, gate_of}
-use Rattle.qir_cli.specs.BaseText.{base_text, text_of_main, type_lines, define_line, entry_lines, gate_line, end_lines, declare_line, attributes_line, flag_lines}
+use Rattle.qir_cli.specs.code.BaseCode.{Wrote, gates_text, declares_text, gate_text, declare_text}
+use Rattle.qir_cli.specs.BaseGates.{GateCall, gates_of, used_gates, gate_of}
+use Rattle.qir_cli.specs.BaseText.{base_text, lines_text, type_lines, define_line, entry_lines, gate_line, end_lines, declare_line, attributes_line, flag_lines}
+use Rattle.qir_cli.specs.OneBlock.{block_insts, own_qubits, own_results}
 
 lines-split : (a b c e g i : List (List ℕ)) (d h : List ℕ)
     → lines_text (a ++ d ∷ b ++ c ++ e ++ g ++ h ∷ i)
@@ -37,26 +36,22 @@ all_written : (t0 t1 t2 t3 t4 t5 t6 t7 t8 a b c d e g h i : List ℕ) → t0 ≡
     → t5 ≡ t4 ++ e → t6 ≡ t5 ++ g → t7 ≡ t6 ++ h → t8 ≡ t7 ++ i → t8 ≡ a ++ (d ++ b) ++ c ++ e ++ g ++ (h ++ i)
 all_written t0 t1 t2 t3 t4 t5 t6 t7 t8 a b c d e g h i e0 e1 e2 e3 e4 e5 e6 e7 e8 = rw (e8, e7, e6, e5, e4, e3, e2, e1, e0) (simp append_assoc)
 
-pub base_text-written : (m : Module) (f : Function) (t0 t1 t2 t3 t4 t5 t6 t7 t8 : List ℕ) → main_of m ≡ Some f → t0 ≡ []
+pub base_text-written : (m : Module) (f : Function) (t0 t1 t2 t3 t4 t5 t6 t7 t8 : List ℕ) → t0 ≡ []
     → t1 ≡ t0 ++ lines_text type_lines
     → t2 ≡ t1 ++ (define_line f ++ 10 ∷ [])
     → t3 ≡ t2 ++ lines_text entry_lines
-    → t4 ≡ t3 ++ gates_text (gates_of m)
+    → t4 ≡ t3 ++ gates_text (gates_of m f)
     → t5 ≡ t4 ++ lines_text end_lines
-    → t6 ≡ t5 ++ declares_text (gates_of m)
-    → t7 ≡ t6 ++ (attributes_line (own_qubits m + allocations m) ++ 10 ∷ [])
+    → t6 ≡ t5 ++ declares_text (gates_of m f)
+    → t7 ≡ t6 ++ (attributes_line (own_qubits f + length f.locals) (own_results f) ++ 10 ∷ [])
     → t8 ≡ t7 ++ lines_text flag_lines
-    → t8 ≡ base_text m
-base_text-written m f t0 t1 t2 t3 t4 t5 t6 t7 t8 is e0 e1 e2 e3 e4 e5 e6 e7 e8 =
-    all_written t0 t1 t2 t3 t4 t5 t6 t7 t8 _ _ _ _ _ _ _ _ e0 e1 e2 e3 (e4 ∙ ap (λ t. t3 ++ t) (sym (lines-gates (gates_of m)))) e5
-    (e6 ∙ ap (λ t. t5 ++ t) (sym (lines-declares (used_gates m)))) e7 e8
-    ∙ sym (lines-split type_lines entry_lines (map gate_line (gates_of m)) end_lines (flat_map (λ g. declare_line g ∷ [] ∷ []) (used_gates m)) flag_lines
-    (define_line f) (attributes_line (own_qubits m + allocations m)))
-    ∙ sym (ap (text_of_main m) is)
+    → t8 ≡ base_text m f
+base_text-written m f t0 t1 t2 t3 t4 t5 t6 t7 t8 e0 e1 e2 e3 e4 e5 e6 e7 e8 =
+    all_written t0 t1 t2 t3 t4 t5 t6 t7 t8 _ _ _ _ _ _ _ _ e0 e1 e2 e3 (e4 ∙ ap (λ t. t3 ++ t) (sym (lines-gates (gates_of m f)))) e5
+    (e6 ∙ ap (λ t. t5 ++ t) (sym (lines-declares (used_gates m f)))) e7 e8
+    ∙ sym (lines-split type_lines entry_lines (map gate_line (gates_of m f)) end_lines (flat_map (λ g. declare_line g ∷ [] ∷ []) (used_gates m f)) flag_lines
+    (define_line f) (attributes_line (own_qubits f + length f.locals) (own_results f)))
 
-pub Wrote-all : (m : Module) (k : ℕ) (insts : List Inst) (lowered : Lowered) → Wrote (flat_map (gate_of m k) insts) lowered
-    → k ≡ own_qubits m → insts ≡ block_insts m → Wrote (gates_of m) lowered
-Wrote-all m k insts lowered wrote e1 e2 = subst (λ gates. Wrote gates lowered) (ap (λ n. flat_map (gate_of m n) insts) e1 ∙ ap (flat_map (gate_of m (own_qubits m))) e2) wrote
-
-pub all_qubits : (m : Module) (f : Function) (k n : ℕ) → main_of m ≡ Some f → k ≡ own_qubits m → n ≡ length f.locals → k + n ≡ own_qubits m + allocations m
-all_qubits m f k n is e1 e2 = let e3 = ap locals_of_main is in cc
+pub Wrote-all : (m : Module) (f : Function) (k : ℕ) (insts : List Inst) (lowered : Lowered) → Wrote (flat_map (gate_of m k) insts) lowered
+    → k ≡ own_qubits f → insts ≡ block_insts f → Wrote (gates_of m f) lowered
+Wrote-all m f k insts lowered wrote e1 e2 = subst (λ gates. Wrote gates lowered) (ap (λ n. flat_map (gate_of m n) insts) e1 ∙ ap (flat_map (gate_of m (own_qubits f))) e2) wrote

@@ -1,13 +1,16 @@
 -- The worked text of two allocations, lowered.
 use Rattle.std.proofs.Common.{◌≡◌, refl, [], ◌∷◌}
 use Rattle.std.specs.Fmt.{digits}
-use Rattle.std.specs.Prelude.{codes}
+use Rattle.std.specs.Prelude.{codes, Some}
 use Rattle.ir_reader.specs.declared.line.Gate.TheVariants.{H}
 use Rattle.ir_reader.specs.declared.line.Line.TheVariants.{Allocate, Release, Apply}
 use Rattle.ir_reader.specs.declared.line.Qubit.TheVariants.{Named}
-use Rattle.ir_reader.specs.FirstText.{Program, lines_text}
-use Rattle.ir_reader.specs.FirstTree.{tree_of}
-use Rattle.qir_cli.specs.BaseText.{base_text}
+use Rattle.ir_reader.specs.FirstText.{Program}
+use Rattle.ir_reader.specs.FirstTree.{tree_of, main_function}
+use Rattle.ir_values.specs.Calls.{class_of}
+use Rattle.qir_cli.specs.BaseText.{base_text, lines_text}
+use Rattle.qir_cli.specs.OneBlock.{one_block}
+use Rattle.ir_module.specs.Entry.{entry_of}
 
 unfoldable pub two_allocations : Program
 two_allocations = record {
@@ -22,7 +25,12 @@ two_allocations = record {
       ∷ [];
 }
 
-text : base_text (tree_of two_allocations)
+-- its tree is one of one block
+is_one_block : one_block (tree_of two_allocations) ≡ Some (record { number = 0; function = main_function two_allocations })
+unfolding two_allocations digits class_of entry_of
+is_one_block = refl
+
+text : base_text (tree_of two_allocations) (main_function two_allocations)
     ≡ lines_text (codes "%Qubit = type opaque"
     ∷ codes "%Result = type opaque"
     ∷ []
@@ -56,5 +64,5 @@ text : base_text (tree_of two_allocations)
     ∷ codes "!2 = !{i32 1, !\"dynamic_qubit_management\", i1 false}"
     ∷ codes "!3 = !{i32 1, !\"dynamic_result_management\", i1 false}"
     ∷ [])
-unfolding two_allocations digits
+unfolding two_allocations digits class_of
 text = refl

@@ -9,7 +9,7 @@ use Rattle.backend_api.specs.declared.operation.Event.{Event}
 use Rattle.backend_api.specs.declared.operation.Op.{Op}
 use Rattle.backend_api.specs.declared.operation.QubitRef.{QubitRef}
 use Rattle.backend_api.specs.declared.operation.QubitRef.TheVariants as qubit
-use Rattle.ir_reader.specs.FirstTree.{tree_of}
+use Rattle.ir_reader.specs.FirstTree.{tree_of, main_function}
 use Rattle.ir_values.specs.Calls.{class_of}
 use Rattle.ir_module.specs.Entry.{entry_of}
 use Rattle.qir_meaning.specs.Moves.{move}
@@ -45,10 +45,10 @@ wrong_answer : run_by_steps (tree_of two_allocations) (Bit true ∷ []) 9 ≡ En
 unfolding two_allocations digits class_of entry_of move exec
 wrong_answer = refl
 
-lowered : run_by_steps (base_tree (tree_of two_allocations)) (Done ∷ Done ∷ []) 7 ≡ Ended (Returned (pos 0)) (left [] 0 [] (done (qubit.Id 0) ∷ done (qubit.Id 1) ∷ []))
+lowered : run_by_steps (base_tree (tree_of two_allocations) (main_function two_allocations)) (Done ∷ Done ∷ []) 7 ≡ Ended (Returned (pos 0)) (left [] 0 [] (done (qubit.Id 0) ∷ done (qubit.Id 1) ∷ []))
 unfolding two_allocations digits class_of entry_of move exec
 lowered = refl
 
-lowered_without_answer : run_by_steps (base_tree (tree_of two_allocations)) (Done ∷ []) 9 ≡ Ended (Asks (hadamard (qubit.Id 1))) (left [] 0 [] (done (qubit.Id 0) ∷ []))
+lowered_without_answer : run_by_steps (base_tree (tree_of two_allocations) (main_function two_allocations)) (Done ∷ []) 9 ≡ Ended (Asks (hadamard (qubit.Id 1))) (left [] 0 [] (done (qubit.Id 0) ∷ []))
 unfolding two_allocations digits class_of entry_of move exec
 lowered_without_answer = refl

@@ -4,7 +4,7 @@ use Rattle.std.specs.Prelude.{codes, Result, Ok, Err, OnOk}
 use Rattle.std.specs.List.{flat_map}
 use Rattle.ir_module.specs.declared.tree.Operand.{Operand}
 use Rattle.ir_values.specs.declared.ty.Ty.{Ty}
-use Rattle.qir_cli.specs.BaseCode.{more_handles_text, handles_text, handle_of, parameters_text, more_parameters_text}
+use Rattle.qir_cli.specs.code.BaseCode.{more_handles_text, handles_text, handle_of, parameters_text, more_parameters_text}
 use Rattle.qir_cli.specs.BaseGates.{qubit_number}
 use Rattle.qir_cli.specs.BaseText.{handle_text, listed}
 

@@ -1,11 +1,16 @@
 -- The text of the lowered module under the Base Profile.
-use Rattle.std.specs.Prelude.{ℕ, ◌+◌, ◌==◌, if◌then◌else◌, Option, None, Some, List, [], ◌∷◌, ◌++◌, map, codes, decimal}
+use Rattle.std.specs.Prelude.{ℕ, ◌+◌, ◌==◌, if◌then◌else◌, List, [], ◌∷◌, ◌++◌, length, map, codes, decimal}
 use Rattle.std.specs.List.{flat_map}
 use Rattle.ir_module.specs.declared.tree.Function.{Function}
 use Rattle.ir_module.specs.declared.tree.Module.{Module}
-use Rattle.ir_reader.specs.FirstText.{lines_text}
+use Rattle.ir_values.specs.Bytes.{line_feed}
 use Rattle.ir_values.specs.Names.{name_text}
-use Rattle.qir_cli.specs.BaseGates.{GateCall, main_of, own_qubits, allocations, gates_of, used_gates}
+use Rattle.qir_cli.specs.BaseGates.{GateCall, gates_of, used_gates}
+use Rattle.qir_cli.specs.OneBlock.{own_qubits, own_results}
+
+-- each line with its end
+abbrev pub lines_text : List (List ℕ) → List ℕ
+lines_text lines = flat_map (λ line. line ++ line_feed ∷ []) lines
 
 -- texts with a comma and a blank between
 abbrev pub listed : List (List ℕ) → List ℕ
@@ -24,10 +29,13 @@ declare_line g = codes "declare void @" ++ name_text g.callee.name ++ codes "(" 
 abbrev pub define_line : Function → List ℕ
 define_line f = codes "define i64 @" ++ name_text f.name ++ codes "() #0 {"
 
-abbrev pub attributes_line : ℕ → List ℕ
-attributes_line qubits =
+abbrev pub attributes_line : ℕ → ℕ → List ℕ
+attributes_line qubits results =
     codes "attributes #0 = { \"entry_point\" \"qir_profiles\"=\"base_profile\" \"output_labeling_schema\" \"required_num_qubits\"=\""
-    ++ decimal qubits ++ codes "\" \"required_num_results\"=\"0\" }"
+    ++ decimal qubits
+    ++ codes "\" \"required_num_results\"=\""
+    ++ decimal results
+    ++ codes "\" }"
 
 abbrev pub type_lines : List (List ℕ)
 type_lines = codes "%Qubit = type opaque" ∷ codes "%Result = type opaque" ∷ [] ∷ []
@@ -72,14 +80,11 @@ abbrev pub base_lines : Module → Function → List (List ℕ)
 base_lines m f =
     type_lines
     ++ define_line f ∷ entry_lines
-    ++ map gate_line (gates_of m)
+    ++ map gate_line (gates_of m f)
     ++ end_lines
-    ++ flat_map (λ g. declare_line g ∷ [] ∷ []) (used_gates m)
-    ++ attributes_line (own_qubits m + allocations m) ∷ flag_lines
+    ++ flat_map (λ g. declare_line g ∷ [] ∷ []) (used_gates m f)
+    ++ attributes_line (own_qubits f + length f.locals) (own_results f) ∷ flag_lines
 
-abbrev pub text_of_main : Module → Option Function → List ℕ
-text_of_main m None = []
-text_of_main m (Some f) = lines_text (base_lines m f)
-
-abbrev pub base_text : Module → List ℕ
-base_text m = text_of_main m (main_of m)
+-- the text of the lowered module, where f is the entry
+abbrev pub base_text : Module → Function → List ℕ
+base_text m f = lines_text (base_lines m f)

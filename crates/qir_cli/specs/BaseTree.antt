@@ -1,5 +1,5 @@
 -- The tree of the lowered module under the Base Profile (QIR specification, 'Base Profile').
-use Rattle.std.specs.Prelude.{ℕ, ◌+◌, ◌==◌, if◌then◌else◌, Option, None, Some, List, [], ◌∷◌, map, codes, decimal}
+use Rattle.std.specs.Prelude.{ℕ, ◌+◌, ◌==◌, if◌then◌else◌, Option, None, Some, List, [], ◌∷◌, length, map, codes, decimal}
 use Rattle.ir_module.specs.declared.tree.Attr.{Attr}
 use Rattle.ir_module.specs.declared.tree.Block.{Block}
 use Rattle.ir_module.specs.declared.tree.Callee.TheVariants as callee
@@ -20,12 +20,19 @@ use Rattle.ir_values.specs.declared.ty.Ty.TheVariants as ty
 use Rattle.ir_values.specs.declared.ids.BlockId.{BlockId}
 use Rattle.ir_values.specs.declared.ids.FuncId.{FuncId}
 use Rattle.ir_values.specs.declared.name.Name.TheVariants as name
+use Rattle.ir_values.specs.declared.value.Value.{Value}
 use Rattle.ir_values.specs.declared.value.Value.TheVariants as value
 use Rattle.ir_values.specs.Calls.{rt}
-use Rattle.ir_reader.specs.FirstTree.{attr, declaration, zero_code}
 use Rattle.backend_api.specs.Naming.{Naming}
 use Rattle.qir_meaning.specs.Naming.{fixed_naming}
-use Rattle.qir_cli.specs.BaseGates.{GateCall, main_of, own_qubits, allocations, gates_of, used_gates}
+use Rattle.qir_cli.specs.BaseGates.{GateCall, gates_of, used_gates}
+use Rattle.qir_cli.specs.OneBlock.{own_qubits, own_results}
+
+abbrev pub zero_code : Value
+zero_code = value.Int (record { width = W64; bits = 0 })
+
+abbrev pub attr : List ℕ → Option (List ℕ) → Attr
+attr key value = record { key = key; value = value }
 
 abbrev pub block_id : ℕ → BlockId
 block_id n = record { 0 = n }
@@ -51,21 +58,21 @@ abbrev pub initialize_call : Inst
 initialize_call = call_void (record { 0 = 1 }) ((ty.Text, operand.Const value.NoLabel) ∷ [])
 
 -- initialize, then the operations that can be undone, then those that can't, then the records and the return
-abbrev pub lowered_blocks : Module → List Block
-lowered_blocks m =
+abbrev pub lowered_blocks : Module → Function → List Block
+lowered_blocks m f =
     block (codes "entry") (initialize_call ∷ []) (term.Br (block_id 1))
-    ∷ block (codes "body") (map (lowered_gate (used_gates m)) (gates_of m)) (term.Br (block_id 2))
+    ∷ block (codes "body") (map (lowered_gate (used_gates m f)) (gates_of m f)) (term.Br (block_id 2))
     ∷ block (codes "measurements") [] (term.Br (block_id 3))
     ∷ block (codes "output") [] (term.Ret (ty.Int W64) (operand.Const zero_code))
     ∷ []
 
-abbrev pub lowered_attrs : ℕ → List Attr
-lowered_attrs qubits =
+abbrev pub lowered_attrs : ℕ → ℕ → List Attr
+lowered_attrs qubits results =
     attr (codes "entry_point") None
     ∷ attr (codes "qir_profiles") (Some (codes "base_profile"))
     ∷ attr (codes "output_labeling_schema") None
     ∷ attr (codes "required_num_qubits") (Some (decimal qubits))
-    ∷ attr (codes "required_num_results") (Some (codes "0"))
+    ∷ attr (codes "required_num_results") (Some (decimal results))
     ∷ []
 
 abbrev pub lowered_main : Module → Function → Function
@@ -74,8 +81,8 @@ lowered_main m f = record {
   ret = ty.Int W64;
   params = 0;
   locals = [];
-  attrs = lowered_attrs (own_qubits m + allocations m);
-  blocks = Some (lowered_blocks m);
+  attrs = lowered_attrs (own_qubits f + length f.locals) (own_results f);
+  blocks = Some (lowered_blocks m f);
 }
 
 abbrev pub flag_of : ℕ → List ℕ → ℕ → ℕ → Flag
@@ -89,14 +96,28 @@ base_flags =
     ∷ flag_of 1 (codes "dynamic_result_management") 1 0
     ∷ []
 
-abbrev lowered_funcs : Module → Option Function → List Function
-lowered_funcs m None = []
-lowered_funcs m (Some f) =
-    lowered_main m f ∷ declaration (rt (codes "initialize")) ty.Void (ty.Text ∷ []) [] ∷ map (λ g. g.callee) (used_gates m)
+abbrev pub initialize : Function
+initialize = record {
+  name = name.Text (rt (codes "initialize"));
+  ret = ty.Void;
+  params = 1;
+  locals = (name.Number 0, ty.Text) ∷ [];
+  attrs = [];
+  blocks = None;
+}
 
-abbrev pub base_tree : Module → Module
-base_tree m = record { globals = m.globals; funcs = lowered_funcs m (main_of m); flags = base_flags }
+-- the functions that the gates call are declared without attributes
+abbrev pub declared_gate : GateCall → Function
+declared_gate g = record g.callee { attrs = []; }
 
--- the names under which the lowered module issues the operations of m
-abbrev pub naming_of : Module → Naming
-naming_of m = fixed_naming (own_qubits m) 0
+-- the lowered module, where f is the entry
+abbrev pub base_tree : Module → Function → Module
+base_tree m f = record {
+  globals = m.globals;
+  funcs = lowered_main m f ∷ initialize ∷ map declared_gate (used_gates m f);
+  flags = base_flags;
+}
+
+-- the names under which it issues the operations of the module
+abbrev pub naming_of : Function → Naming
+naming_of f = fixed_naming (own_qubits f) (own_results f)

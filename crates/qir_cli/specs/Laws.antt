@@ -1,11 +1,19 @@
--- A law of answers.
+-- Laws of replies.
 use Rattle.std.specs.Prelude.{◌≡◌, ℕ, List}
 use Rattle.qir_cli.specs.declared.command.Command.{Command}
-use Rattle.qir_cli.specs.declared.status.Status.{Status}
-use Rattle.qir_cli.specs.Answers.{Answer}
+use Rattle.qir_cli.specs.declared.command.Command.TheVariants.{LowerBase}
+use Rattle.qir_cli.specs.Reading.{Reads}
+use Rattle.qir_cli.specs.Replies.{Replies}
+use Rattle.qir_cli.specs.Stages.{AtMostOne, AtLeastOne}
 
--- a command has at most one answer to an input
-abbrev pub AnswersAreOne : Type 0
-AnswersAreOne =
-    (command : Command) (bytes : List ℕ) (s s' : Status) (text text' : List ℕ) → Answer command bytes s text → Answer command bytes s' text'
-    → (s ≡ s') × (text ≡ text')
+-- the commands that have one text for an input
+abbrev pub HasOneText : Command → Type 0
+HasOneText (LowerBase budget) = Unit {0}
+
+-- they have at most one reply to it
+abbrev pub RepliesAreOne : Type 0
+RepliesAreOne = (command : Command) (bytes : List ℕ) → HasOneText command → AtMostOne (Replies command bytes)
+
+-- every command has a reply to every input that the reader reads or refuses
+abbrev pub RepliesExist : Type 0
+RepliesExist = (command : Command) (bytes : List ℕ) → AtLeastOne (Reads bytes) → AtLeastOne (Replies command bytes)

@@ -1,10 +1,14 @@
-pub mod Answers
-pub mod BaseCode
 pub mod BaseGates
 pub mod BaseText
 pub mod BaseTree
-pub mod Budget
 pub mod Commands
+pub mod Headline
 pub mod Laws
+pub mod OneBlock
 pub mod Outcomes
+pub mod Reading
+pub mod Refusals
+pub mod Replies
+pub mod Stages
 pub mod Statuses
+pub mod code

@@ -1,21 +1,19 @@
 //! The lowered text of a module of one block, under the Base Profile.
 ghost use Rattle.std.specs.Prelude.{◌≡◌, ℕ, ◌++◌, List, [], ◌∷◌, IfOk, OnOk};
 ghost use Rattle.std.specs.List.{flat_map};
-ghost use Rattle.std.specs.Option.{option_map, option_to_list, option_copied};
-ghost use Rattle.ir_values.specs.Names.{name_text};
-ghost use Rattle.qir_cli.specs.BaseCode as code;
+ghost use Rattle.std.specs.Option.{option_map, option_to_list};
+ghost use Rattle.qir_cli.specs.code.BaseCode as code;
 ghost use Rattle.qir_cli.specs.BaseGates as spec;
 ghost use Rattle.qir_cli.specs.BaseGates.{GateCall};
 ghost use Rattle.qir_cli.specs.BaseText as spec_text;
+ghost use Rattle.ir_values.specs.Bytes.{line_feed};
+ghost use Rattle.qir_cli.specs.OneBlock.{roles_of};
 
-use crate::text::push_number;
+use crate::one_block::{Role, block_insts, direct_call, own_qubits, own_results};
 use indexmap::IndexSet;
-use ir_module::{Attr, Callee, Function, Inst, InstKind, Module, Operand};
-use ir_values::{Bytes, Memory, Name, Ty, Value, parse_decimal};
+use ir_module::{Function, Inst, Module, Operand};
+use ir_values::{Bytes, Memory, Ty, Value, push_decimal};
 use std::alloc::Global;
-
-/// How the names of quantum instructions begin.
-const QUANTUM: &[u8] = b"__quantum__qis__";
 
 const TYPES: &[u8] = b"%Qubit = type opaque\n%Result = type opaque\n\n";
 
@@ -60,55 +58,20 @@ struct Gate<'a> {
     args: &'a [(Ty, Operand)],
 }
 
-/// The entry, which is the first function.
-fn entry(m: &Module) -> Option<&Function>
-    ensures { option_copied result ≡ spec.main_of m.now }
-{
-    m.funcs.as_slice().first()
-}
-
-/// The value of the first attribute with this key, or nothing.
-fn attribute_value<'a>(key: &[u8], mut attrs: &'a [Attr]) -> &'a [u8]
-    ensures { result.now ≡ spec.attribute_value key.now attrs.entry.now }
-{
-    while let [attr, rest @ ..] = attrs {
-        if attr.key.as_slice() == key {
-            return match &attr.value {
-                Some(value) => value.as_slice(),
-                None => &[],
-            };
-        }
-        attrs = rest;
-    }
-    &[]
-}
-
-/// The bytes of a name, or nothing where it is a number.
-fn text_of(name: &Name) -> &[u8]
-    ensures { result.now ≡ name_text name.now }
-{
-    match name {
-        Name::Text(bytes) => bytes.as_slice(),
-        Name::Number(_) => &[],
-    }
-}
-
-/// The call of a quantum instruction that an instruction is, if it is one.
-fn gate_of<'a>(m: &'a Module, inst: &'a Inst) -> Option<Gate<'a>>
+/// The gate that an instruction is, if it is one.
+fn gate_of<'a>(m: &'a Module, roles: &[Role], inst: &'a Inst) -> Option<Gate<'a>>
+    requires { roles.now ≡ roles_of m.now }
     ensures { (k : ℕ) → spec.gate_of m.now k inst.now ≡ option_to_list (option_map (code.call_of k) result) }
 {
-    let InstKind::Call(_, Callee::Func(f), args) = &inst.what else {
-        return None;
-    };
-    let callee = m.funcs.as_slice().get(f.0 as usize)?;
-    if text_of(&callee.name).starts_with(QUANTUM) {
-        Some(Gate {
-            number: f.0,
+    let call = direct_call(inst)?;
+    let callee = m.funcs.as_slice().get(call.function.0 as usize)?;
+    match roles.get(call.function.0 as usize) {
+        Some(Role::Applies) => Some(Gate {
+            number: call.function.0,
             callee,
-            args: args.as_slice(),
-        })
-    } else {
-        None
+            args: call.args,
+        }),
+        _ => None,
     }
 }
 
@@ -130,7 +93,7 @@ fn push_handle(text: &mut Bytes, n: u128) -> Result<(), Memory>
         return text.extend_from_slice(b"%Qubit* null");
     }
     text.extend_from_slice(b"%Qubit* inttoptr (i64 ")?;
-    push_number(text, n)?;
+    push_decimal(text, n)?;
     text.extend_from_slice(b" to %Qubit*)")
 }
 
@@ -174,7 +137,7 @@ fn push_gate(text: &mut Bytes, k: u64, gate: &Gate) -> Result<(), Memory>
     ensures { OnOk result (text.new ≡ text.old ++ code.gate_text (code.call_of k gate.now)) }
 {
     text.extend_from_slice(b"  call void @")?;
-    text.extend_from_slice(text_of(&gate.callee.name))?;
+    text.extend_from_slice(gate.callee.name.text())?;
     text.push(b'(')?;
     push_handles(text, k, gate.args)?;
     text.extend_from_slice(b")\n")
@@ -185,7 +148,7 @@ fn push_declare(text: &mut Bytes, gate: &Gate) -> Result<(), Memory>
     ensures { OnOk result ((k : ℕ) → text.new ≡ text.old ++ code.declare_text (code.call_of k gate.now)) }
 {
     text.extend_from_slice(b"declare void @")?;
-    text.extend_from_slice(text_of(&gate.callee.name))?;
+    text.extend_from_slice(gate.callee.name.text())?;
     text.push(b'(')?;
     push_parameters(text, gate.args)?;
     text.extend_from_slice(b")\n\n")
@@ -226,13 +189,20 @@ impl Lowered {
     }
 }
 
-/// Lowers the instructions of the block, where `k` qubits are the module's own.
-fn lower_block(alloc: Global, m: &Module, k: u64, mut insts: &[Inst]) -> Result<Lowered, Memory>
+/// Lowers the instructions of a block, where `k` qubits are the module's own.
+fn lower_block(
+    alloc: Global,
+    m: &Module,
+    roles: &[Role],
+    k: u64,
+    mut insts: &[Inst],
+) -> Result<Lowered, Memory>
+    requires { roles.now ≡ roles_of m.now }
     ensures { IfOk result (code.Wrote (flat_map (spec.gate_of m.now k) insts.entry.now)) }
 {
     let mut lowered = Lowered::new(alloc);
     while let Some((inst, more)) = insts.split_first() {
-        if let Some(gate) = gate_of(m, inst) {
+        if let Some(gate) = gate_of(m, roles, inst) {
             lowered.push(k, &gate)?;
         }
         insts = more;
@@ -240,71 +210,45 @@ fn lower_block(alloc: Global, m: &Module, k: u64, mut insts: &[Inst]) -> Result<
     Ok(lowered)
 }
 
-/// The required number of qubits.
-fn own_qubits(m: &Module) -> u64
-    requires { code.RequiresPlainly m.now }
-    ensures { result ≡ spec.own_qubits m.now }
-{
-    match entry(m) {
-        Some(main) => {
-            parse_decimal(attribute_value(b"required_num_qubits", main.attrs.as_slice())).unwrap_or(
-                0,
-            )
-        }
-        None => 0,
-    }
-}
-
-/// The instructions of the one block.
-pub(crate) fn block_insts(m: &Module) -> &[Inst]
-    ensures { result.now ≡ spec.block_insts m.now }
-{
-    match entry(m) {
-        Some(main) => match &main.blocks {
-            Some(blocks) => match blocks.as_slice() {
-                [block, ..] => block.insts.as_slice(),
-                [] => &[],
-            },
-            None => &[],
-        },
-        None => &[],
-    }
-}
-
-fn push_define(text: &mut Bytes, main: &Function) -> Result<(), Memory>
-    ensures { OnOk result (text.new ≡ text.old ++ (spec_text.define_line main.now ++ 10 ∷ [])) }
+fn push_define(text: &mut Bytes, entry: &Function) -> Result<(), Memory>
+    ensures { OnOk result (text.new ≡ text.old ++ (spec_text.define_line entry.now ++ line_feed ∷ [])) }
 {
     text.extend_from_slice(b"define i64 @")?;
-    text.extend_from_slice(text_of(&main.name))?;
+    text.extend_from_slice(entry.name.text())?;
     text.extend_from_slice(b"() #0 {\n")
 }
 
-fn push_attributes(text: &mut Bytes, qubits: u128) -> Result<(), Memory>
-    ensures { OnOk result (text.new ≡ text.old ++ (spec_text.attributes_line qubits ++ 10 ∷ [])) }
+fn push_attributes(text: &mut Bytes, qubits: u128, results: u64) -> Result<(), Memory>
+    ensures { OnOk result (text.new ≡ text.old ++ (spec_text.attributes_line qubits results ++ line_feed ∷ [])) }
 {
     text.extend_from_slice(ATTRIBUTES)?;
-    push_number(text, qubits)?;
-    text.extend_from_slice(b"\" \"required_num_results\"=\"0\" }\n")
+    push_decimal(text, qubits)?;
+    text.extend_from_slice(b"\" \"required_num_results\"=\"")?;
+    push_decimal(text, u128::from(results))?;
+    text.extend_from_slice(b"\" }\n")
 }
 
-/// The text of the lowered module, which is empty where the module has no function.
-pub(crate) fn lowered_text(alloc: Global, m: &Module) -> Result<Bytes, Memory>
-    requires { code.RequiresPlainly m.now }
-    ensures { IfOk result (λ text. text ≡ spec_text.base_text m.now) }
+/// The text of the lowered module, where `entry` is the entry of a module of one block.
+pub(crate) fn lowered_text(
+    alloc: Global,
+    m: &Module,
+    roles: &[Role],
+    entry: &Function,
+) -> Result<Bytes, Memory>
+    requires { roles.now ≡ roles_of m.now }
+    ensures { IfOk result (λ text. text ≡ spec_text.base_text m.now entry.now) }
 {
+    let k = own_qubits(entry);
+    let lowered = lower_block(alloc, m, roles, k, block_insts(entry))?;
     let mut text = Bytes::new(alloc);
-    let Some(main) = entry(m) else {
-        return Ok(text);
-    };
-    let k = own_qubits(m);
-    let lowered = lower_block(alloc, m, k, block_insts(m))?;
     text.extend_from_slice(TYPES)?;
-    push_define(&mut text, main)?;
+    push_define(&mut text, entry)?;
     text.extend_from_slice(ENTRY)?;
     text.append(lowered.gates)?;
     text.extend_from_slice(END)?;
     text.append(lowered.declares)?;
-    push_attributes(&mut text, u128::from(k) + main.locals.len() as u128)?;
+    let qubits = u128::from(k) + entry.locals.len() as u128;
+    push_attributes(&mut text, qubits, own_results(entry))?;
     text.extend_from_slice(FLAGS)?;
     Ok(text)
 }

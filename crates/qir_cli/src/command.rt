@@ -32,17 +32,13 @@ pub(crate) fn command_of(words: &[String]) -> Option<Command>
 }
 
 /// The number that a word writes in plain digits, if it lies in these limits.
-fn number_word(word: &[u8], least: u64, most: u64) -> Option<u64>
+pub(crate) fn number_word(word: &[u8], least: u64, most: u64) -> Option<u64>
     ensures { result ≡ spec.number_word least most word.now }
 {
-    match parse_decimal(word) {
-        Some(n) => {
-            if least <= n && n <= most {
-                Some(n)
-            } else {
-                None
-            }
-        }
-        None => None,
+    let n = parse_decimal(word)?;
+    if least <= n && n <= most {
+        Some(n)
+    } else {
+        None
     }
 }

@@ -1,8 +1,12 @@
-//! A law of answers, as the contract of a function that does nothing.
-ghost use Rattle.qir_cli.specs.Laws.{AnswersAreOne};
+//! Laws of replies, as the contracts of functions that do nothing.
+ghost use Rattle.qir_cli.specs.Laws.{RepliesAreOne, RepliesExist};
 
-/// A command has at most one answer to an input. Since `qir` answers each input or says that there was
-/// no memory, it has exactly one.
-pub fn answers_are_one()
-    ensures { AnswersAreOne }
+/// A command that has one text for an input has at most one reply to it.
+pub fn replies_are_one()
+    ensures { RepliesAreOne }
+{}
+
+/// Every command has a reply to every input that the reader reads or refuses.
+pub fn replies_exist()
+    ensures { RepliesExist }
 {}

@@ -1,15 +1,17 @@
-//! The commands of `qir`, each with its whole answer for every input.
+//! The commands of `qir`, each with its whole reply to every input.
 #![tactic(auto)]
 
 mod base_lowering;
 mod command;
 mod laws;
+mod lower_base;
+mod one_block;
 mod program;
+mod refusal;
 mod reply;
 mod status;
-mod text;
 
 pub use command::Command;
-pub use laws::answers_are_one;
+pub use laws::{replies_are_one, replies_exist};
 pub use program::qir;
 pub use status::Status;

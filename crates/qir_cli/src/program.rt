@@ -2,9 +2,10 @@
 ghost use Rattle.std.specs.Prelude.{◌≡◌, ◌≤◌, ◌+◌, ◌↔◌, None};
 ghost use Rattle.ir_values.specs.Counts.{Rose};
 ghost use Rattle.qir_ports.specs.Known.{Takes, GivesUpTo};
-ghost use Rattle.qir_cli.specs.Answers.{limit};
 ghost use Rattle.qir_cli.specs.Commands.{command_of, texts_of};
-ghost use Rattle.qir_cli.specs.Outcomes.{Answered, PartlyAnswered, Sends, IsAnswered, IsUnwritten};
+ghost use Rattle.qir_cli.specs.code.Stops.{Sends};
+ghost use Rattle.qir_cli.specs.Outcomes.{Answered, PartlyAnswered, IsAnswered, IsUnwritten};
+ghost use Rattle.qir_cli.specs.Replies.{limit};
 
 use crate::reply::Reply;
 use crate::status::Status;
@@ -17,13 +18,15 @@ use std::alloc::Global;
 const LIMIT: usize = 4_194_304;
 
 /// Does what the words say, which is all that the program does: reads the source to its end, and
-/// writes the answer to the sink.
+/// writes the reply to the sink.
 ///
 /// - `BadWords` comes exactly where the words are no command, and then nothing is read or written.
 /// - `ReadFault` comes only where a read failed, and then nothing is written.
-/// - `WriteFault` comes only where a write failed, and then the beginning of the answer was written.
-/// - `Memory` may come wherever memory is asked for, and then nothing is written.
-/// - Every other status comes with the whole of the answer that the command has for all the bytes that
+/// - `WriteFault` comes only where a write failed, and then a beginning of the reply was written, and
+///   not all of it.
+/// - `Memory` may come wherever memory is asked for, and then nothing is written by the commands that
+///   make their whole text first.
+/// - Every other status comes with the whole of the reply that the command has to all the bytes that
 ///   the source had left, where it tells them.
 pub fn qir<S: Source, K: Sink>(
     alloc: Global,
@@ -33,7 +36,7 @@ pub fn qir<S: Source, K: Sink>(
 ) -> Status
     ensures bad_words { (result ≡ Status.BadWords) ↔ (command_of (texts_of words.now.items) ≡ None) }
     ensures unread { result ≡ Status.BadWords → input.new ≡ input.old }
-    ensures unwritten { IsUnwritten result → out.new ≡ out.old }
+    ensures unwritten { IsUnwritten (texts_of words.now.items) result → out.new ≡ out.old }
     ensures read { GivesUpTo (limit + 1) (S.left input.old) (S.left input.new) }
     ensures read_fault { result ≡ Status.ReadFault → Rose (S.faults input.old) (S.faults input.new) }
     ensures write_fault { result ≡ Status.WriteFault → Rose (K.faults out.old) (K.faults out.new) }
@@ -46,14 +49,14 @@ pub fn qir<S: Source, K: Sink>(
         return Status::BadWords;
     };
     match read_all(alloc, input, LIMIT) {
-        Ok(text) => send(out, reply::answer(alloc, command, text.as_slice())),
+        Ok(text) => send(out, reply::reply_to(alloc, command, text.as_slice())),
         Err(ReadError::TooLong) => send(out, reply::too_long(alloc)),
         Err(ReadError::Failed) => Status::ReadFault,
         Err(ReadError::Memory) => Status::Memory,
     }
 }
 
-/// Writes an answer, if there was memory for it.
+/// Writes a reply, if there was memory for it.
 fn send<K: Sink>(out: &mut K, reply: Result<Reply, Memory>) -> Status
     ensures { Sends reply (K.taken out.old) (K.taken out.new) (K.faults out.old) (K.faults out.new)
         (out.new ≡ out.old) result }

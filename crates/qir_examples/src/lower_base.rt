@@ -114,6 +114,27 @@ fn fixed_and_allocated_qubits_stand_side_by_side(rt: HostRuntime) -> Result<(), 
     Ok(())
 }
 
+/// As many gates as the greatest budget lets through with the return.
+#[test]
+fn many_gates_are_lowered_within_the_greatest_budget(rt: HostRuntime) -> Result<(), Fail> {
+    let alloc = rt.alloc();
+    let mut body = vec![in alloc; "call void @__quantum__qis__h__body(%Qubit* null)"; 9_999]?;
+    body.push(RET)?;
+    let text = text_of(alloc, "1", "0", body.as_slice())?;
+    let gates = vec![in alloc; "h__body(%Qubit* null)"; 9_999]?;
+    let expected = lowered(alloc, gates.as_slice(), [H].as_slice(), "1")?;
+    let done = lower(alloc, "10000", text.as_slice())?;
+    assert_eq!(rt; done.status, Status::Done);
+    assert_eq!(rt; done.written.as_slice(), expected.as_slice());
+    let over = lower(alloc, "9999", text.as_slice())?;
+    assert_eq!(rt; over.status, Status::Refused);
+    assert_eq!(rt;
+        over.written.as_slice(),
+        b"REFUSED\tlower\tU4\t10002\t3\tBudget\n".as_slice()
+    );
+    Ok(())
+}
+
 #[test]
 fn other_texts_are_refused(rt: HostRuntime) -> Result<(), Fail> {
     let alloc = rt.alloc();

@@ -1,6 +1,6 @@
 use Rattle.std.proofs.Common.{◌≡◌, ◌++◌, List, length}
 use Rattle.std.specs.List.{flat_map}
-use Rattle.qir_cli.specs.BaseCode as code
+use Rattle.qir_cli.specs.code.BaseCode as code
 use Rattle.qir_cli.specs.BaseGates as spec
 use Rattle.qir_cli.specs.BaseGates.{GateCall}
 use Rattle.qir_cli.proofs.base_lowering.lower_block.Given as goal

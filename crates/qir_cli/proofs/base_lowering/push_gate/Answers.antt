@@ -11,7 +11,7 @@ returns c =
     (λ e. line_written c.args.text.now c.extend_from_slice.new.self c.extend_from_slice-2.new.self c.push.new.self c.push_handles.new.text
     c.extend_from_slice-3.new.self (codes "  call void @") (name_text g.callee.now.name) (codes "(") _ (codes ")") (codes "\n")
     c.in_ok-extend_from_slice.ensures.ok
-    (c.in_ok-extend_from_slice-2.ensures.ok ∙ ap (λ t. c.extend_from_slice.new.self ++ t) c.text_of.ensures)
+    (c.in_ok-extend_from_slice-2.ensures.ok ∙ ap (λ t. c.extend_from_slice.new.self ++ t) c.text.ensures)
     c.in_ok-push.ensures.ok
     (c.in_ok-push_handles.ensures ∙ ap (λ t. c.push.new.self ++ t) (sym (handles-listed c.args.k g.args.now)))
     e)

@@ -1,5 +1,5 @@
 use Rattle.std.proofs.Common.{◌≡◌, ◌++◌, length}
-use Rattle.qir_cli.specs.BaseCode as code
+use Rattle.qir_cli.specs.code.BaseCode as code
 use Rattle.qir_cli.proofs.base_lowering.push_more_handles.Given as goal
 
 abbrev pub invariant-loop-argument : goal.invariant-loop-argument

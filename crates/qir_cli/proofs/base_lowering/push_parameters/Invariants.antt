@@ -1,5 +1,5 @@
 use Rattle.std.proofs.Common.{◌≡◌, ◌++◌, length}
-use Rattle.qir_cli.specs.BaseCode as code
+use Rattle.qir_cli.specs.code.BaseCode as code
 use Rattle.qir_cli.proofs.base_lowering.push_parameters.Given as goal
 
 abbrev pub invariant-loop-rest : goal.invariant-loop-rest

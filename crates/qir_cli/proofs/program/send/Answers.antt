@@ -1,6 +1,6 @@
 use Rattle.std.proofs.Common.{subst, take, ◌<◌, length}
 use Rattle.qir_ports.specs.Known.{Takes}
-use Rattle.qir_cli.specs.Outcomes.{whole, in_part}
+use Rattle.qir_cli.specs.code.Stops.{whole, in_part}
 use Rattle.qir_cli.proofs.program.send.Goals as goal
 
 pub returns-in-Ok-write_all : goal.returns-in-Ok-write_all

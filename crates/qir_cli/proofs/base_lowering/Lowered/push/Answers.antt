@@ -1,7 +1,7 @@
 use Rattle.std.proofs.Common.{◌≡◌, ◌∙◌, true, false, refl, sym}
 use Rattle.std.specs.Prelude.{nat_eq}
 use Rattle.std.specs.List.{list_any}
-use Rattle.qir_cli.specs.BaseCode as code
+use Rattle.qir_cli.specs.code.BaseCode as code
 use Rattle.qir_cli.proofs.Calls.{Wrote-first, Wrote-again, choice, not-true, not-false}
 use Rattle.qir_cli.proofs.base_lowering.Lowered.push.Goals as goal
 

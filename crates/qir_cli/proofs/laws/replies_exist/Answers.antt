@@ -1,0 +1,5 @@
+use Rattle.qir_cli.proofs.laws.replies_exist.Goals as goal
+use Rattle.qir_cli.proofs.Replying.{replies-some}
+
+pub returns : goal.returns
+returns c = replies-some

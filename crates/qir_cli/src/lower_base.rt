@@ -1,0 +1,66 @@
+//! The command `lower base`.
+ghost use Rattle.std.specs.Prelude.{◌≡◌, ◌<◌, ◌≤◌, ◌^◌, length};
+ghost use Rattle.qir_cli.specs.code.OneBlockCode.{entry_of, found_of};
+ghost use Rattle.qir_cli.specs.code.Stops.{Meets};
+ghost use Rattle.qir_cli.specs.code.Placed.{Placed};
+ghost use Rattle.qir_cli.specs.OneBlock as block;
+ghost use Rattle.qir_cli.specs.Replies as spec;
+ghost use Rattle.std.specs.Option.{option_map};
+
+use crate::base_lowering::lowered_text;
+use crate::one_block::{Entry, block_insts, one_block, roles_of};
+use crate::refusal::{Fault, LowerCode, Refusal, Stop};
+use crate::reply::Reply;
+use crate::status::Status;
+use ir_module::{Point, Spot};
+use ir_reader::Parsed;
+use ir_values::{BlockId, FuncId};
+use std::alloc::Global;
+
+/// Lowers the module that a text spells under the Base Profile, within a budget of instructions.
+pub(crate) fn lower_base(alloc: Global, budget: u64, text: &[u8]) -> Result<Reply, Stop>
+    requires { length text.now ≤ spec.limit }
+    ensures { Meets (spec.LowersBase budget text.now) result }
+{
+    let parsed = ir_reader::read(alloc, text)?;
+    lower_parsed(alloc, budget, &parsed)
+}
+
+fn lower_parsed(alloc: Global, budget: u64, parsed: &Parsed) -> Result<Reply, Stop>
+    requires { Placed parsed.now }
+    ensures { Meets (spec.LowersParsed budget parsed.now) result }
+{
+    let roles = roles_of(alloc, &parsed.module)?;
+    let found = one_block(alloc, &parsed.module, roles.as_slice())?;
+    let entry = within_budget(budget, parsed, found)?;
+    Ok(Reply {
+        status: Status::Done,
+        text: lowered_text(alloc, &parsed.module, roles.as_slice(), entry.function)?,
+    })
+}
+
+/// The entry, where it was found and its instructions, the return counted, are within the budget.
+fn within_budget<'a>(
+    budget: u64,
+    parsed: &Parsed,
+    found: Option<Entry<'a>>,
+) -> Result<Entry<'a>, Refusal>
+    requires placed { Placed parsed.now }
+    requires found { option_map entry_of found ≡ block.one_block parsed.now.module }
+    ensures { found_of result ≡ spec.within_budget budget parsed.now (option_map entry_of found.entry) }
+{
+    let Some(entry) = found else {
+        return Err(Fault::Lower(LowerCode::FirstPath).at_start());
+    };
+    if (block_insts(entry.function).len() as u64) < budget {
+        return Ok(entry);
+    }
+    Err(Refusal {
+        fault: Fault::Lower(LowerCode::Budget),
+        place: parsed.places.of(Spot::At(Point {
+            func: FuncId(entry.number as u32),
+            block: BlockId(0),
+            index: budget,
+        })),
+    })
+}

@@ -1,0 +1,162 @@
+//! Why a command refuses its input, and the line that says so.
+ghost use Rattle.std.specs.Prelude.{◌≡◌, ◌++◌, IfOk, OnOk};
+ghost use Rattle.qir_cli.specs.code.Stops.{stop_of};
+ghost use Rattle.qir_cli.specs.declared.refusal.Stop.TheVariants as stop;
+ghost use Rattle.qir_cli.specs.Refusals as spec;
+
+use ir_module::Place;
+use ir_reader::{ReadCode, ReadStop};
+use ir_values::{Bytes, Memory, push_decimal};
+use std::alloc::Global;
+
+/// Why an input is refused. The stage that refuses it is part of the fault.
+#[derive(Clone, Copy)]
+pub(crate) enum Fault {
+    /// The input has more than 4,194,304 bytes.
+    TooLong,
+    /// The bytes are no module text.
+    Read(ReadCode),
+    /// The module can't be lowered.
+    Lower(LowerCode),
+}
+
+/// Why a module isn't lowered.
+#[derive(Clone, Copy)]
+pub(crate) enum LowerCode {
+    /// It is no module of one block, and others are not lowered yet.
+    FirstPath,
+    /// It has more instructions than the budget.
+    Budget,
+}
+
+/// A fault and its place in the input.
+#[derive(Clone, Copy)]
+pub(crate) struct Refusal {
+    pub(crate) fault: Fault,
+    pub(crate) place: Place,
+}
+
+/// What stops a command before it has a reply of its own.
+#[derive(Clone, Copy)]
+pub(crate) enum Stop {
+    /// The input is refused.
+    Refused(Refusal),
+    /// Out of memory.
+    Memory,
+}
+
+impl From<Refusal> for Stop {
+    ghost from_gives = { λ why s. s ≡ stop.Refused why };
+
+    fn from(why: Refusal) -> Stop {
+        Stop::Refused(why)
+    }
+}
+
+impl From<Memory> for Stop {
+    ghost from_gives = { λ _ s. s ≡ stop.Memory };
+
+    fn from(_e: Memory) -> Stop {
+        Stop::Memory
+    }
+}
+
+impl From<ReadStop> for Stop {
+    ghost from_gives = { λ e s. s ≡ stop_of e };
+
+    fn from(e: ReadStop) -> Stop {
+        match e {
+            ReadStop::Refused { code, place } => Stop::Refused(Refusal {
+                fault: Fault::Read(code),
+                place,
+            }),
+            ReadStop::Memory => Stop::Memory,
+        }
+    }
+}
+
+impl Fault {
+    /// The fault of the text as a whole.
+    pub(crate) fn at_start(self) -> Refusal
+        ensures { result ≡ spec.at_start self }
+    {
+        Refusal {
+            fault: self,
+            place: Place { line: 1, column: 1 },
+        }
+    }
+
+    /// The stage that refuses.
+    fn stage(self) -> &'static [u8]
+        ensures { result.now ≡ spec.stage_of self }
+    {
+        match self {
+            Fault::TooLong => b"input",
+            Fault::Read(_) => b"read",
+            Fault::Lower(_) => b"lower",
+        }
+    }
+
+    /// Adds the code of the fault last.
+    fn push_code(self, text: &mut Bytes) -> Result<(), Memory>
+        ensures { OnOk result (text.new ≡ text.old ++ spec.code_of self) }
+    {
+        match self {
+            Fault::TooLong => text.extend_from_slice(b"1"),
+            Fault::Read(code) => push_decimal(text, u128::from(code.number())),
+            Fault::Lower(code) => text.extend_from_slice(code.code()),
+        }
+    }
+
+    /// The name of the fault.
+    fn name(self) -> &'static [u8]
+        ensures { result.now ≡ spec.name_of self }
+    {
+        match self {
+            Fault::TooLong => b"TooLong",
+            Fault::Read(code) => code.name(),
+            Fault::Lower(code) => code.name(),
+        }
+    }
+}
+
+impl LowerCode {
+    fn code(self) -> &'static [u8]
+        ensures { result.now ≡ spec.lower_code self }
+    {
+        match self {
+            LowerCode::FirstPath => b"13",
+            LowerCode::Budget => b"U4",
+        }
+    }
+
+    fn name(self) -> &'static [u8]
+        ensures { result.now ≡ spec.lower_name self }
+    {
+        match self {
+            LowerCode::FirstPath => b"FirstPath",
+            LowerCode::Budget => b"Budget",
+        }
+    }
+}
+
+impl Refusal {
+    /// The line of the refusal, with its line feed.
+    pub(crate) fn line(&self, alloc: Global) -> Result<Bytes, Memory>
+        ensures { IfOk result (λ line. line ≡ spec.refusal_line self.now) }
+    {
+        let mut line = Bytes::new(alloc);
+        line.extend_from_slice(b"REFUSED\t")?;
+        line.extend_from_slice(self.fault.stage())?;
+        line.push(b'\t')?;
+        self.fault.push_code(&mut line)?;
+        line.push(b'\t')?;
+        push_decimal(&mut line, u128::from(self.place.line))?;
+        line.push(b'\t')?;
+        push_decimal(&mut line, u128::from(self.place.column))?;
+        line.push(b'\t')?;
+        line.extend_from_slice(self.fault.name())?;
+        line.push(b'\n')?;
+        Ok(line)
+    }
+}

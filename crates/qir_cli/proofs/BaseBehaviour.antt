@@ -1,9 +1,9 @@
 -- A module of one block and its lowered module do the same.
-use Rattle.std.proofs.Common.{◌≡◌, ℕ, zero, suc, ◌+◌, ◌-◌, ◌≤◌, ◌<◌, Bool, List, [], ◌∷◌, length, map, Option, Some, None, refl, sym, ap, ◌∙◌, subst, arith}
+use Rattle.std.proofs.Common.{◌≡◌, ℕ, ◌+◌, ◌-◌, ◌≤◌, ◌<◌, List, [], ◌∷◌, length, map, Option, Some, None, refl, ap, ◌∙◌, subst, arith}
 use Rattle.std.proofs.lemmas.List.{length-replicate}
 use Rattle.std.proofs.lemmas.List.Elements.{All-nil, All-same}
 use Rattle.std.specs.List.{flat_map}
-use Rattle.std.specs.Prelude.{slice_get, codes, IsTrue}
+use Rattle.std.specs.Prelude.{codes}
 use Rattle.backend_api.specs.declared.operation.Answer.{Answer}
 use Rattle.backend_api.specs.declared.operation.Event.{Event}
 use Rattle.ir_module.specs.declared.tree.Block.{Block}
@@ -15,12 +15,10 @@ use Rattle.ir_module.specs.declared.tree.Inst.{Inst}
 use Rattle.ir_module.specs.declared.tree.Module.{Module}
 use Rattle.ir_module.specs.declared.tree.Operand.TheVariants as operand
 use Rattle.ir_module.specs.declared.tree.Phi.{Phi}
-use Rattle.ir_module.specs.declared.tree.Term.{Term}
 use Rattle.ir_module.specs.declared.tree.Term.TheVariants as term
 use Rattle.ir_module.specs.declared.places.Point.{Point}
 use Rattle.ir_module.specs.Steps.{Step, NoStep, step_of_point, step_in_module, step_at}
 use Rattle.ir_values.specs.declared.int.Width.TheVariants.{W64}
-use Rattle.ir_values.specs.declared.ty.Ty.{Ty}
 use Rattle.ir_values.specs.declared.ty.Ty.TheVariants as ty
 use Rattle.ir_values.specs.declared.class.Class.TheVariants as class
 use Rattle.ir_values.specs.declared.name.Name.{Name}
@@ -28,8 +26,7 @@ use Rattle.ir_values.specs.declared.name.Name.TheVariants as name
 use Rattle.ir_values.specs.declared.value.Value.{Value}
 use Rattle.ir_values.specs.declared.value.Value.TheVariants as value
 use Rattle.output_records.specs.declared.record.Record.{Record}
-use Rattle.qir_meaning.specs.Runs.{AlwaysRuns}
-use Rattle.qir_cli.specs.BaseGates.{gate_of, gates_of, used_gates, first_calls}
+use Rattle.qir_cli.specs.BaseGates.{gate_of, gates_of, used_gates}
 use Rattle.qir_cli.specs.BaseTree.{base_tree, naming_of, block, block_id, initialize, initialize_call, lowered_gate, lowered_main, lowered_attrs, base_flags, declared_gate, zero_code}
 use Rattle.qir_cli.specs.Headline.{Lowered}
 use Rattle.qir_cli.specs.OneBlock.{block_insts, one_block, own_qubits, own_results}
@@ -44,23 +41,22 @@ use Rattle.qir_cli.proofs.Source.{IsSource, Stands, state, tick-is}
 use Rattle.qir_meaning.proofs.Apart.{keeps-apart}
 use Rattle.qir_meaning.proofs.Behaviour.{both-run, same-behaviour}
 use Rattle.qir_meaning.proofs.Bounds.{run-from}
-use Rattle.qir_meaning.specs.Apart.{KeepsApart, QubitBelow, ResultBelow, StaysBelow, qubits_of_run, results_of_run}
+use Rattle.qir_meaning.specs.Apart.{QubitBelow, ResultBelow, StaysBelow, qubits_of_run, results_of_run}
 use Rattle.ir_module.specs.Entry.{Entry, entry_of}
 use Rattle.qir_meaning.specs.Moves.{move, step_move, does}
 use Rattle.qir_meaning.specs.Runs.{RunEnd, Runs}
-use Rattle.qir_meaning.specs.Same.{SameBehaviour}
 use Rattle.qir_meaning.specs.code.Simulation.{On, run, tick, whole_start, Started, Simulation}
-use Rattle.qir_meaning.specs.State.{Env, State, Next, frame}
+use Rattle.qir_meaning.specs.State.{State, Next, frame}
 
 abbrev function_step : Option Function → Point → Step
 function_step None p = NoStep
 function_step (Some f) p = step_of_point f p
 
 abbrev with_phis : Block → List Phi → Block
-with_phis b ps = record b { phis = ps; }
+with_phis b ps = record b { phis = ps }
 
 abbrev with_blocks : Function → Option (List Block) → Function
-with_blocks f bs = record f { blocks = bs; }
+with_blocks f bs = record f { blocks = bs }
 
 -- the source's block
 module _ (m : Module) (e : Entry) (is : IsOneBlock m e) where

@@ -1,10 +1,10 @@
 -- A source names fixed numbers below its required number of qubits alone, and no results.
-use Rattle.std.proofs.Common.{◌≡◌, ℕ, zero, suc, ◌+◌, Bool, List, [], ◌∷◌, ◌++◌, flat_map, map, Some, None, refl, sym, ap, ◌∙◌, subst, true≢false}
+use Rattle.std.proofs.Common.{◌≡◌, ℕ, zero, suc, ◌+◌, Bool, List, [], ◌∷◌, ◌++◌, flat_map, None, refl, sym, ap, ◌∙◌, subst, true≢false}
 use Rattle.std.proofs.lemmas.Bool.{ltb-true}
 use Rattle.std.proofs.lemmas.Grind.{flat_map-append}
 use Rattle.std.proofs.lemmas.List.Elements.{All-append, All-cons, All-nil, All-same}
 use Rattle.std.specs.List.{All}
-use Rattle.std.specs.Prelude.{IsTrue, slice_set, ⊤}
+use Rattle.std.specs.Prelude.{IsTrue, ⊤}
 use Rattle.backend_api.specs.declared.operation.Answer.{Answer}
 use Rattle.backend_api.specs.declared.operation.Answer.TheVariants as answer
 use Rattle.backend_api.specs.declared.operation.Event.{Event}
@@ -96,7 +96,7 @@ module _ (m : Module) (f k names : ℕ) (ins : List Inst) (S : IsSource m f ins)
       by (λ i d env held hs es ans h a. run-below n rest i d env held hs es ans h a) (does-next m f ins S k names i d env held hs x rest h)
     where
       by : ((i d : ℕ) (env : Env) (held : List Bool) (hs : List ℕ) (es : List Event) (ans : List Answer) → Stands m k names ins rest i d env held hs → EventsBelow k es
-              → EndsBelow k (run m n (source f i env ans d hs es)))
+          → EndsBelow k (run m n (source f i env ans d hs es)))
           → Does m k names ins rest f i d env held hs x → EndsBelow k (run m (suc n) (source f i env ans d hs es))
       by ih (alone d' env' held' hs' stands ticks none) = by-tick n (source f i env ans d hs es) _ (ticks es ans) (ih (i + 1) d' env' held' hs' es ans stands a)
       by ih (gates args call stands fit ticks one) =

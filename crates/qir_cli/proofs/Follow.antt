@@ -2,7 +2,7 @@
 use Rattle.std.proofs.Common.{◌≡◌, ℕ, zero, suc, ◌+◌, ◌<◌, Bool, List, [], ◌∷◌, ◌++◌, length, map, Some, None, refl, sym, ap, ◌∙◌, subst, arith}
 use Rattle.std.proofs.lemmas.List.{map-append}
 use Rattle.std.specs.List.{flat_map}
-use Rattle.std.specs.Prelude.{slice_get, slice_set}
+use Rattle.std.specs.Prelude.{slice_get}
 use Rattle.backend_api.specs.declared.operation.Answer.{Answer}
 use Rattle.backend_api.specs.declared.operation.Answer.TheVariants as answer
 use Rattle.backend_api.specs.declared.operation.Arg.TheVariants as arg
@@ -10,12 +10,10 @@ use Rattle.backend_api.specs.declared.operation.Event.{Event}
 use Rattle.backend_api.specs.declared.operation.Op.{Op}
 use Rattle.backend_api.specs.declared.operation.QubitRef.TheVariants as qubit
 use Rattle.backend_api.specs.Naming.{Naming, named_op, named_event, named_events}
-use Rattle.ir_module.specs.declared.tree.Function.{Function}
 use Rattle.ir_module.specs.declared.tree.Inst.{Inst}
 use Rattle.ir_module.specs.declared.tree.Module.{Module}
 use Rattle.ir_values.specs.declared.ty.Ty.TheVariants as ty
 use Rattle.ir_values.specs.declared.class.Class.TheVariants as class
-use Rattle.ir_values.specs.declared.ids.FuncId.{FuncId}
 use Rattle.ir_values.specs.declared.value.Value.TheVariants as value
 use Rattle.qir_cli.specs.BaseGates.{GateCall, gate_of}
 use Rattle.qir_cli.specs.BaseTree.{lowered_gate, number_among, declared_gate, zero_code}
@@ -25,7 +23,6 @@ use Rattle.qir_cli.proofs.Moves.{at, Args, Holds, declared-move, refs, numbers, 
 use Rattle.qir_cli.proofs.Source.{IsSource, Stands, Does, alone, gates, comes-back, does-next, source, state, tick-is}
 use Rattle.qir_meaning.specs.Effects.{gate, operation}
 use Rattle.ir_values.specs.Names.{name_text}
-use Rattle.ir_module.specs.Classes.{class_of_function}
 use Rattle.qir_meaning.specs.Moves.{move, does}
 use Rattle.qir_meaning.specs.Naming.{fixed_naming}
 use Rattle.qir_meaning.specs.Runs.{Asks}
@@ -148,7 +145,7 @@ module _ (m l : Module) (f k r' W : ℕ) where
         (record { events = alike; records = refl }, lt, by (λ i j d env held hs es es' ans h a. follow n rest i j d env held hs es es' ans h (omega (arith, lt)) a) (does-next m f ins S k names i d env held hs x rest h.stands))
       where
         by : ((i j d : ℕ) (env : Env) (held : List Bool) (hs : List ℕ) (es es' : List Event) (ans : List Answer) → Here rest i j d env held hs → named_events N es ≡ es'
-                → Follows N m l W n (length rest) (source f i env ans d hs es) (target 1 j ans es'))
+            → Follows N m l W n (length rest) (source f i env ans d hs es) (target 1 j ans es'))
             → Does m k names ins rest f i d env held hs x → Meets_n n (suc (length rest)) (target 1 j ans es') (tick m (source f i env ans d hs es))
         by ih (alone d' env' held' hs' stands goes none) =
             stays n (length rest) (source f i env ans d hs es) (target 1 j ans es') (source f (i + 1) env' ans d' hs' es) (goes es ans)

@@ -83,7 +83,7 @@ all-called earlier (g ∷ gs) =
     by-case false h = called-last earlier g
 
 abbrev without_attrs : Function → Function
-without_attrs f = record f { attrs = []; }
+without_attrs f = record f { attrs = [] }
 
 abbrev bare : Option Function → Option Function
 bare None = None

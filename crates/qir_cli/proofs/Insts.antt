@@ -1,5 +1,5 @@
 -- What an instruction is that may stand in a module of one block.
-use Rattle.std.proofs.Common.{◌≡◌, ℕ, ◌<◌, Bool, true, false, not, ◌&&◌, List, [], ◌∷◌, ◌++◌, length, map, Option, Some, None, refl, sym, ap, ◌∙◌, subst, true≢false}
+use Rattle.std.proofs.Common.{◌≡◌, ℕ, ◌<◌, Bool, true, false, ◌&&◌, List, [], ◌∷◌, ◌++◌, length, map, Option, Some, None, refl, sym, ap, ◌∙◌, subst, true≢false}
 use Rattle.std.proofs.lemmas.Bool.{ltb-true}
 use Rattle.std.proofs.lemmas.Option.{slice_get-map}
 use Rattle.std.specs.Cmp.{unsigned_Decides}
@@ -7,7 +7,6 @@ use Rattle.std.specs.List.{list_all}
 use Rattle.std.specs.Option.{option_map}
 use Rattle.std.specs.Prelude.{◌==◌, nat_lt, is_some, IsTrue, slice_get, slice_set, if◌then◌else◌}
 use Rattle.ir_module.specs.declared.tree.Block.{Block}
-use Rattle.ir_module.specs.declared.tree.Callee.{Callee}
 use Rattle.ir_module.specs.declared.tree.Callee.TheVariants as callee
 use Rattle.ir_module.specs.declared.tree.Function.{Function}
 use Rattle.ir_module.specs.declared.tree.Inst.{Inst}
@@ -22,10 +21,10 @@ use Rattle.ir_values.specs.declared.class.Class.{Class}
 use Rattle.ir_values.specs.declared.class.Class.TheVariants as class
 use Rattle.ir_values.specs.declared.ids.FuncId.{FuncId}
 use Rattle.ir_values.specs.declared.ids.LocalId.{LocalId}
-use Rattle.qir_cli.specs.BaseGates.{GateCall, applies, gate_by, gate_in, gate_of, qubit_number}
+use Rattle.qir_cli.specs.BaseGates.{GateCall, applies, gate_by, gate_of, qubit_number}
 use Rattle.qir_cli.specs.declared.one_block.Role.{Role}
 use Rattle.qir_cli.specs.declared.one_block.Role.TheVariants.{Allocates, Releases, Applies, Other}
-use Rattle.qir_cli.specs.OneBlock.{DirectCall, after, after_call, allocated, call_of, is_held, is_plain_gate, is_qubit, released, role_of, role_of_class, roles_of, when}
+use Rattle.qir_cli.specs.OneBlock.{DirectCall, after, after_call, is_held, is_plain_gate, is_qubit, released, role_of, role_of_class, roles_of, when}
 use Rattle.qir_cli.proofs.Held.{and-left, and-right}
 use Rattle.ir_module.specs.Classes.{class_of_function}
 use Rattle.qir_meaning.specs.Moves.{given}

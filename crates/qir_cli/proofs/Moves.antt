@@ -1,8 +1,8 @@
 -- What single instructions of modules of one block do.
-use Rattle.std.proofs.Common.{◌≡◌, ℕ, zero, suc, ◌+◌, ◌-◌, Bool, true, false, List, [], ◌∷◌, ◌++◌, length, map, Option, Some, None, refl, sym, ap, ◌∙◌, subst, arith, true≢false}
+use Rattle.std.proofs.Common.{◌≡◌, ℕ, zero, suc, ◌+◌, ◌-◌, Bool, List, [], ◌∷◌, ◌++◌, length, map, Option, Some, None, refl, sym, ap, ◌∙◌, subst, arith, true≢false}
 use Rattle.std.proofs.lemmas.Option.{slice_get_past}
 use Rattle.std.specs.List.{list_all}
-use Rattle.std.specs.Prelude.{◌&&◌, IsTrue, slice_get, codes, if◌then◌else◌}
+use Rattle.std.specs.Prelude.{◌&&◌, IsTrue, slice_get, if◌then◌else◌}
 use Rattle.backend_api.specs.declared.operation.Arg.{Arg}
 use Rattle.backend_api.specs.declared.operation.Arg.TheVariants as arg
 use Rattle.backend_api.specs.declared.operation.QubitRef.{QubitRef}

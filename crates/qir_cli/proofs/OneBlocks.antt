@@ -1,7 +1,7 @@
 -- What is known of the entry of a module of one block.
 use Rattle.std.proofs.Common.{◌≡◌, ℕ, suc, ◌+◌, Bool, true, false, ◌&&◌, List, [], ◌∷◌, length, Option, Some, None, refl, sym, ap, ◌∙◌, subst, arith, true≢false}
 use Rattle.std.specs.Cmp.{unsigned_Decides}
-use Rattle.std.specs.Prelude.{◌==◌, is_some, IsTrue, slice_get, if◌then◌else◌}
+use Rattle.std.specs.Prelude.{◌==◌, IsTrue, slice_get, if◌then◌else◌}
 use Rattle.ir_module.specs.declared.tree.Block.{Block}
 use Rattle.ir_module.specs.declared.tree.Function.{Function}
 use Rattle.ir_module.specs.declared.tree.Module.{Module}
@@ -12,7 +12,6 @@ use Rattle.ir_module.specs.declared.tree.Term.TheVariants as term
 use Rattle.ir_values.specs.declared.int.Width.{Width}
 use Rattle.ir_values.specs.declared.int.Width.TheVariants as width
 use Rattle.ir_values.specs.declared.ty.Ty.{Ty}
-use Rattle.ir_values.specs.declared.value.Value.{Value}
 use Rattle.ir_values.specs.declared.value.Value.TheVariants as value
 use Rattle.qir_cli.specs.BaseTree.{zero_code}
 use Rattle.qir_cli.specs.OneBlock.{block_fits, block_insts, blocks_fit, head_fits, insts_fit, is_64, is_nil, is_one_block, is_zero, one_block, own_qubits, returns_zero, roles_of, when}
@@ -69,7 +68,7 @@ pub record IsOneBlock (m : Module) (e : Entry) : Type 0 where
   pub fits : IsTrue (insts_fit (roles_of m) (own_qubits e.function) (length e.function.locals) [] block.insts)
 
 abbrev with_blocks : Function → Option (List Block) → Function
-with_blocks f bs = record f { blocks = bs; }
+with_blocks f bs = record f { blocks = bs }
 
 pub block-insts-are : (m : Module) (e : Entry) (is : IsOneBlock m e) → block_insts e.function ≡ is.block.insts
 block-insts-are m e is = ap (λ bs. block_insts (with_blocks e.function bs)) is.blocks

@@ -2,7 +2,7 @@
 use Rattle.std.proofs.Common.{◌≡◌, ◌∙◌, ℕ, zero, suc, ◌+◌, ◌<◌, ◌≤◌, ◌^◌, Bool, true, false, List, [], ◌∷◌, ◌++◌, length, refl, ap, sym, subst, arith, if◌then◌else◌, true≢false}
 use Rattle.std.specs.Cmp.{unsigned_Decides}
 use Rattle.std.specs.List.{list_all}
-use Rattle.std.specs.Prelude.{◌==◌, is_none, is_some, IsSome, IsTrue, Option, None, Some, Result, Ok, Err, slice_get}
+use Rattle.std.specs.Prelude.{◌==◌, is_none, IsSome, IsTrue, Option, None, Some, Ok, Err, slice_get}
 use Rattle.ir_module.specs.declared.places.Place.{Place}
 use Rattle.ir_module.specs.declared.places.Spot.{Spot}
 use Rattle.ir_module.specs.declared.places.Spot.TheVariants as spot
@@ -20,9 +20,7 @@ use Rattle.ir_reader.specs.FirstTree.{declarations, declaration_places, inst_pla
 use Rattle.ir_reader.specs.Parses.{IsTreeOf, MayStopWith, Parses}
 use Rattle.qir_cli.specs.code.Placed.{Placed}
 use Rattle.qir_cli.specs.declared.refusal.Fault.TheVariants.{Read}
-use Rattle.qir_cli.specs.declared.refusal.Refusal.{Refusal}
 use Rattle.qir_cli.specs.Reading.{Misread, Reads, ReadsAs}
-use Rattle.qir_cli.specs.Refusals.{at_start}
 use Rattle.qir_cli.specs.Stages.{AtMostOne}
 use Rattle.qir_cli.proofs.Held.{and-left, and-right}
 use Rattle.qir_cli.proofs.Insts.{never, some-inj}

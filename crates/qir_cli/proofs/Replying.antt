@@ -1,7 +1,6 @@
 -- The reply of a command from what its stages said.
-use Rattle.std.proofs.Common.{◌≡◌, ◌∙◌, ℕ, ◌+◌, ◌<◌, ◌≤◌, Bool, true, false, List, length, refl, ap, sym, subst, arith, if◌then◌else◌}
+use Rattle.std.proofs.Common.{◌≡◌, ◌∙◌, ℕ, ◌<◌, ◌≤◌, Bool, true, false, List, length, refl, ap, sym, subst, arith, if◌then◌else◌}
 use Rattle.std.specs.Prelude.{nat_le, IfOk, Result, Ok, Err, Option, Some, None}
-use Rattle.ir_module.specs.declared.places.Place.{Place}
 use Rattle.ir_module.specs.declared.tree.Module.{Module}
 use Rattle.ir_reader.specs.declared.parsed.Parsed.{Parsed}
 use Rattle.ir_reader.specs.declared.parsed.ReadStop.{ReadStop}
@@ -18,13 +17,12 @@ use Rattle.qir_cli.specs.declared.refusal.Refusal.{Refusal}
 use Rattle.qir_cli.specs.declared.refusal.Stop.{Stop}
 use Rattle.qir_cli.specs.declared.refusal.Stop.TheVariants as stop
 use Rattle.qir_cli.specs.declared.reply.Reply.{Reply}
-use Rattle.qir_cli.specs.declared.status.Status.{Status}
 use Rattle.qir_cli.specs.declared.status.Status.TheVariants.{Done}
 use Rattle.qir_cli.specs.Laws.{HasOneText, RepliesAreOne, RepliesExist}
 use Rattle.qir_cli.specs.OneBlock.{one_block}
 use Rattle.qir_cli.specs.Reading.{Reads}
 use Rattle.qir_cli.specs.Refusals.{at_start}
-use Rattle.qir_cli.specs.Replies.{ComesTo, instructions, limit, Lowers, LowersBase, LowersParsed, LowersText, place_in, refused, Replies, RepliesLowered, reply_of, within_budget, within_limit}
+use Rattle.qir_cli.specs.Replies.{ComesTo, instructions, limit, Lowers, LowersBase, LowersParsed, LowersText, place_in, refused, Replies, reply_of, within_budget, within_limit}
 use Rattle.qir_cli.specs.Stages.{Is, Then, refuses, leads_on, AtMostOne, AtLeastOne}
 use Rattle.qir_cli.proofs.BaseBehaviour.{lowered-is}
 use Rattle.qir_cli.proofs.Reading.{reads-one, refused-misreads}

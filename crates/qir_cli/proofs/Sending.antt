@@ -15,9 +15,9 @@ use Rattle.qir_cli.specs.declared.refusal.Refusal.{Refusal}
 use Rattle.qir_cli.specs.declared.reply.Reply.{Reply}
 use Rattle.qir_cli.specs.declared.status.Status.{Status}
 use Rattle.qir_cli.specs.declared.status.Status.TheVariants.{Done, Refused, BadWords, Stopped, ReadFault, WriteFault, Memory}
-use Rattle.qir_cli.specs.Outcomes.{Answered, HasReply, IsAnswered, IsUnwritten, PartlyAnswered, WritesAtOnce}
+use Rattle.qir_cli.specs.Outcomes.{Answered, HasReply, IsAnswered, IsUnwritten, PartlyAnswered}
 use Rattle.qir_cli.specs.Refusals.{at_start}
-use Rattle.qir_cli.specs.Replies.{ComesTo, limit, Lowers, LowersParsed, LowersText, Replies, reply_of, too_long, within_limit}
+use Rattle.qir_cli.specs.Replies.{ComesTo, limit, Lowers, LowersText, Replies, reply_of, too_long, within_limit}
 use Rattle.qir_cli.specs.Stages.{Is, Then, refuses, leads_on}
 use Rattle.qir_cli.proofs.Replying.{too-long-is}
 

@@ -1,16 +1,11 @@
 -- What the source does, instruction by instruction.
-use Rattle.std.proofs.Common.{◌≡◌, ℕ, ◌+◌, ◌<◌, Bool, true, false, List, [], ◌∷◌, ◌++◌, length, map, Option, Some, None, refl, sym, ap, ◌∙◌, subst, arith, length-append, length-set, true≢false}
+use Rattle.std.proofs.Common.{◌≡◌, ℕ, ◌+◌, Bool, true, false, List, [], ◌∷◌, ◌++◌, length, map, Option, Some, None, refl, sym, ap, ◌∙◌, arith, length-append, length-set, true≢false}
 use Rattle.std.specs.Prelude.{IsTrue, slice_get, slice_set, if◌then◌else◌}
 use Rattle.backend_api.specs.declared.operation.Answer.{Answer}
 use Rattle.backend_api.specs.declared.operation.Event.{Event}
-use Rattle.ir_module.specs.declared.tree.Function.{Function}
 use Rattle.ir_module.specs.declared.tree.Inst.{Inst}
-use Rattle.ir_module.specs.declared.tree.InstKind.TheVariants as kind
-use Rattle.ir_module.specs.declared.tree.Callee.TheVariants as callee
 use Rattle.ir_module.specs.declared.tree.Module.{Module}
-use Rattle.ir_module.specs.declared.tree.Operand.{Operand}
 use Rattle.ir_module.specs.declared.tree.Operand.TheVariants as operand
-use Rattle.ir_values.specs.declared.ty.Ty.{Ty}
 use Rattle.ir_values.specs.declared.ty.Ty.TheVariants as ty
 use Rattle.ir_values.specs.declared.cause.Cause.TheVariants as cause
 use Rattle.ir_values.specs.declared.class.Class.{Class}
@@ -18,15 +13,14 @@ use Rattle.ir_values.specs.declared.class.Class.TheVariants as class
 use Rattle.ir_values.specs.declared.ids.LocalId.{LocalId}
 use Rattle.ir_values.specs.declared.value.Value.{Value}
 use Rattle.ir_values.specs.declared.value.Value.TheVariants as value
-use Rattle.qir_cli.specs.BaseGates.{GateCall, gate_of}
+use Rattle.qir_cli.specs.BaseGates.{gate_of}
 use Rattle.qir_cli.specs.BaseTree.{zero_code}
-use Rattle.qir_cli.specs.OneBlock.{after, fits_next, insts_fit, is_held, roles_of}
+use Rattle.qir_cli.specs.OneBlock.{after, fits_next, insts_fit, roles_of}
 use Rattle.qir_cli.proofs.Held.{AreHeld, Allocated, allocated-value, allocated-next, but, held-allocated, held-released, held-within}
 use Rattle.qir_cli.proofs.Insts.{IsCall, Kind, allocates, releases, applies_gate, gate_call, kind-of}
 use Rattle.qir_cli.proofs.Moves.{at, AllFit, Args, arg_values, args-pass, Holds, declared-move, refs, values-have}
 use Rattle.qir_meaning.specs.Effects.{declared_call, gate, operation}
 use Rattle.ir_values.specs.Names.{name_text}
-use Rattle.ir_module.specs.Classes.{class_of_function}
 use Rattle.qir_meaning.specs.Moves.{move, does}
 use Rattle.qir_meaning.specs.code.Simulation.{Whole, On, tick, tick_of}
 use Rattle.qir_meaning.specs.State.{Env, State, Move, Next, Back, Halt, Trap, next, one_more, values_of}

@@ -9,7 +9,7 @@ use Rattle.ir_module.specs.declared.tree.Operand.TheVariants as operand
 use Rattle.ir_values.specs.declared.value.Value.{Value}
 use Rattle.ir_values.specs.declared.value.Value.TheVariants as value
 use Rattle.qir_cli.specs.declared.one_block.Role.{Role}
-use Rattle.qir_cli.specs.declared.one_block.Role.TheVariants.{Allocates, Releases, Applies, Other}
+use Rattle.qir_cli.specs.declared.one_block.Role.TheVariants.{Applies}
 use Rattle.qir_cli.specs.OneBlock.{DirectCall, call_of, role_of, own_qubits, block_insts}
 
 -- a gate: the number of its function, the function, and the numbers of its qubits

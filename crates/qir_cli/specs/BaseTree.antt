@@ -108,7 +108,7 @@ initialize = record {
 
 -- the functions that the gates call are declared without attributes
 abbrev pub declared_gate : GateCall → Function
-declared_gate g = record g.callee { attrs = []; }
+declared_gate g = record g.callee { attrs = [] }
 
 -- the lowered module, where f is the entry
 abbrev pub base_tree : Module → Function → Module

@@ -1,5 +1,5 @@
 -- Laws of replies.
-use Rattle.std.specs.Prelude.{◌≡◌, ℕ, List}
+use Rattle.std.specs.Prelude.{ℕ, List}
 use Rattle.qir_cli.specs.declared.command.Command.{Command}
 use Rattle.qir_cli.specs.declared.command.Command.TheVariants.{LowerBase}
 use Rattle.qir_cli.specs.Reading.{Reads}

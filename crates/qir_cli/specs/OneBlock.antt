@@ -1,6 +1,6 @@
 -- Modules of one block: their entry allocates qubits, applies gates and releases what it allocated, and returns zero (QIR specification,
 -- 'Entry Point', 'Runtime Functions' and 'Quantum Instruction Set').
-use Rattle.std.specs.Prelude.{ℕ, ◌<◌, ◌==◌, ◌&&◌, ◌||◌, not, nat_lt, Bool, true, false, is_some, if◌then◌else◌, get_or, slice_get, slice_set, Option, None, Some, List, [], ◌∷◌, ◌++◌, length, map, codes}
+use Rattle.std.specs.Prelude.{ℕ, ◌==◌, ◌&&◌, ◌||◌, not, nat_lt, Bool, true, false, is_some, if◌then◌else◌, get_or, slice_get, slice_set, Option, None, Some, List, [], ◌∷◌, ◌++◌, length, map, codes}
 use Rattle.std.specs.Char.{is_ascii_alphabetic, is_ascii_digit}
 use Rattle.std.specs.List.{list_all, list_any}
 use Rattle.ir_module.specs.declared.tree.Attr.{Attr}
@@ -22,7 +22,6 @@ use Rattle.ir_values.specs.declared.ty.Ty.TheVariants as ty
 use Rattle.ir_values.specs.declared.class.Class.{Class}
 use Rattle.ir_values.specs.declared.class.Class.TheVariants as class
 use Rattle.ir_values.specs.declared.ids.LocalId.{LocalId}
-use Rattle.ir_values.specs.declared.value.Value.{Value}
 use Rattle.ir_values.specs.declared.value.Value.TheVariants as value
 use Rattle.ir_values.specs.Calls.{same_text}
 use Rattle.qir_cli.specs.Commands.{number_word}

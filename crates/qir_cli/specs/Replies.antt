@@ -1,8 +1,6 @@
 -- The reply of a command to an input: a status, and the text that is written.
 use Rattle.std.specs.Prelude.{◌≡◌, ℕ, ◌+◌, nat_le, if◌then◌else◌, Option, None, Some, List, length, Result, Ok, Err}
 use Rattle.ir_module.specs.declared.places.Place.{Place}
-use Rattle.ir_module.specs.declared.places.Point.{Point}
-use Rattle.ir_module.specs.declared.places.Spot.{Spot}
 use Rattle.ir_module.specs.declared.places.Spot.TheVariants.{At}
 use Rattle.ir_module.specs.declared.tree.Function.{Function}
 use Rattle.ir_module.specs.declared.tree.Module.{Module}

@@ -1,12 +1,11 @@
 //! Which modules are modules of one block, which alone are lowered for now.
-ghost use Rattle.std.specs.Prelude.{◌≡◌, ◌<◌, ◌^◌, if◌then◌else◌, Some, None, [], ◌∷◌, ◌++◌, get_or, length, map, take, slice_get, IfOk};
+ghost use Rattle.std.specs.Prelude.{◌≡◌, if◌then◌else◌, Some, None, [], IfOk};
 ghost use Rattle.std.specs.List.{list_all};
 ghost use Rattle.std.specs.Option.{option_map, option_copied};
 ghost use Rattle.qir_cli.specs.OneBlock as spec;
 ghost use Rattle.qir_cli.specs.code.OneBlockCode as code;
 ghost use Rattle.ir_module.specs.Entry as entry;
 ghost use Rattle.ir_values.specs.Names.{name_text};
-ghost use Rattle.ir_module.specs.Classes.{class_of_function};
 
 use crate::command::number_word;
 use ir_module::{Attr, Block, Blocks, Callee, Function, Inst, InstKind, Module, Operand, Term};

@@ -1,5 +1,5 @@
 -- What the code that looks up places needs of a module that was read: each instruction of a first block has its place.
-use Rattle.std.specs.Prelude.{◌≡◌, ℕ, ◌<◌, ◌≤◌, ◌^◌, Some, IsSome, List, [], ◌∷◌, length, slice_get}
+use Rattle.std.specs.Prelude.{◌≡◌, ℕ, ◌<◌, ◌≤◌, ◌^◌, Some, IsSome, [], ◌∷◌, length, slice_get}
 use Rattle.ir_module.specs.declared.places.Spot.TheVariants.{At}
 use Rattle.ir_module.specs.declared.tree.Block.{Block}
 use Rattle.ir_module.specs.declared.tree.Function.{Function}

@@ -1,6 +1,6 @@
-use Rattle.std.proofs.Common.{◌≡◌, ◌+◌, ◌++◌, ◌∷◌, [], ◌∙◌, ap, length}
+use Rattle.std.proofs.Common.{◌+◌, ◌++◌, ◌∷◌, [], ◌∙◌, ap, length}
 use Rattle.qir_cli.specs.BaseText.{attributes_line}
-use Rattle.qir_cli.specs.OneBlock.{own_qubits, own_results}
+use Rattle.qir_cli.specs.OneBlock.{own_qubits}
 use Rattle.qir_cli.proofs.WholeText.{Wrote-all, base_text-written}
 use Rattle.qir_cli.proofs.base_lowering.lowered_text.Goals as goal
 

@@ -1,6 +1,6 @@
-use Rattle.std.proofs.Common.{◌≡◌, ◌∙◌, ap, sym, subst, refl}
+use Rattle.std.proofs.Common.{◌∙◌, ap, sym, subst, refl}
 use Rattle.std.proofs.lemmas.Result.{err_from_is_err_and}
-use Rattle.std.specs.Prelude.{Ok, Err}
+use Rattle.std.specs.Prelude.{Ok}
 use Rattle.qir_cli.specs.code.OneBlockCode.{entry_of}
 use Rattle.qir_cli.specs.code.Stops.{Meets}
 use Rattle.qir_cli.specs.OneBlock.{one_block}

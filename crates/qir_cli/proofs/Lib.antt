@@ -9,6 +9,7 @@ pub mod Insts
 mod Moves
 pub mod OneBlocks
 pub mod Places
+pub mod ReadBlocks
 pub mod Reading
 pub mod Replying
 pub mod Sending

@@ -1,8 +1,10 @@
 -- Laws of replies.
-use Rattle.std.specs.Prelude.{ℕ, List}
+use Rattle.std.specs.Prelude.{ℕ, List, IsSome}
 use Rattle.qir_cli.specs.declared.command.Command.{Command}
 use Rattle.qir_cli.specs.declared.command.Command.TheVariants.{LowerBase}
-use Rattle.qir_cli.specs.Reading.{Reads}
+use Rattle.ir_reader.specs.declared.parsed.Parsed.{Parsed}
+use Rattle.qir_cli.specs.OneBlock.{one_block}
+use Rattle.qir_cli.specs.Reading.{Reads, ReadsAs}
 use Rattle.qir_cli.specs.Replies.{Replies}
 use Rattle.qir_cli.specs.Stages.{AtMostOne, AtLeastOne}
 
@@ -17,3 +19,7 @@ RepliesAreOne = (command : Command) (bytes : List ℕ) → HasOneText command �
 -- every command has a reply to every input that the reader reads or refuses
 abbrev pub RepliesExist : Type 0
 RepliesExist = (command : Command) (bytes : List ℕ) → AtLeastOne (Reads bytes) → AtLeastOne (Replies command bytes)
+
+-- a text that reads is one of a module of one block
+abbrev pub TextsAreOfOneBlock : Type 0
+TextsAreOfOneBlock = (bytes : List ℕ) (parsed : Parsed) → ReadsAs bytes parsed → IsSome (one_block parsed.module)

@@ -1,10 +1,9 @@
 -- The tree of each text that the reader reads is a module of one block.
-use Rattle.std.proofs.Common.{◌≡◌, ℕ, suc, ◌+◌, ◌<◌, ◌≤◌, ◌^◌, Bool, true, false, not, ◌&&◌, List, [], ◌∷◌, ◌++◌, length, map, Some, refl, sym, ap, ◌∙◌, subst, arith, true≢false, eq-eqb, add-one, get_or, if◌then◌else◌}
+use Rattle.std.proofs.Common.{◌≡◌, ℕ, suc, ◌+◌, ◌<◌, ◌≤◌, Bool, true, false, not, ◌&&◌, List, [], ◌∷◌, ◌++◌, length, map, Some, refl, sym, ap, ◌∙◌, subst, arith, true≢false, eq-eqb, add-one, get_or, if◌then◌else◌}
 use Rattle.std.proofs.lemmas.Bool.Decides.{nat_tests}
 use Rattle.std.proofs.lemmas.List.{length-append, length-map, map-append}
 use Rattle.std.specs.Fmt.{digits}
 use Rattle.std.specs.Prelude.{IsSome, is_some, None, IsTrue, slice_set, codes, decimal, nat_le, nat_lt, ◌==◌}
-use Rattle.ir_module.specs.declared.tree.Module.{Module}
 use Rattle.ir_module.specs.Entry.{Entry, entry_of}
 use Rattle.ir_reader.specs.declared.line.Line.{Line}
 use Rattle.ir_reader.specs.declared.line.Line.TheVariants.{Allocate, Release, Apply, Cnot}
@@ -16,12 +15,11 @@ use Rattle.ir_reader.specs.FirstText.{Program, IsProgram, Scope, after_line, is_
 use Rattle.ir_reader.specs.FirstTree.{inst_of, insts_of, main_function, names_of, number_of, qubit_operand, tree_of}
 use Rattle.ir_values.specs.declared.ty.Ty.TheVariants as ty
 use Rattle.ir_values.specs.Calls.{class_of, same_text}
-use Rattle.ir_values.specs.Decimals.{decimal_value}
 use Rattle.ir_values.proofs.DecimalLemmas.{decimal_value-digits}
 use Rattle.qir_cli.specs.declared.one_block.Role.{Role}
 use Rattle.qir_cli.specs.declared.one_block.Role.TheVariants.{Allocates, Releases, Applies, Other}
 use Rattle.qir_cli.specs.Commands.{in_limits}
-use Rattle.qir_cli.specs.OneBlock.{after, blocks_fit, fits_next, head_fits, insts_fit, is_known_attr, is_one_block, is_qubit, one_block, or_zero, own_qubits, required, roles_of, when}
+use Rattle.qir_cli.specs.OneBlock.{after, blocks_fit, fits_next, head_fits, insts_fit, is_one_block, is_qubit, one_block, or_zero, own_qubits, required, roles_of, when}
 use Rattle.qir_cli.specs.Reading.{ReadsAs}
 use Rattle.qir_cli.proofs.Held.{and-left, and-right}
 

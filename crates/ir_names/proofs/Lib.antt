@@ -1,0 +1,9 @@
+pub mod Lists
+pub mod Names
+pub mod Nodes
+pub mod Numbered
+pub mod Parts
+pub mod Told
+pub mod Within
+pub mod Order
+pub mod SpotsOf

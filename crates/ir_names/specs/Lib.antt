@@ -1,0 +1,11 @@
+pub mod Sense
+pub mod Faults
+pub mod Operands
+pub mod Instructions
+pub mod Blocks
+pub mod Functions
+pub mod Metadata
+pub mod Items
+pub mod Module
+pub mod Places
+pub mod code

@@ -1,6 +1,5 @@
 use super::*;
-use ir_values::{BlockId, Bytes, Copies, FuncId, Int, Memory, Name, Seq, Ty, Value, Width};
-use std::alloc::Global;
+use ir_values::{BlockId, Bytes, Class, Copies, FuncId, Int, Name, Seq, Ty, Value, Width};
 use std::test::Fail;
 
 #[test]
@@ -76,50 +75,16 @@ fn places_are_found_by_their_spots(rt: HostRuntime) -> Result<(), Fail> {
 }
 
 #[test]
-fn the_first_entry_has_the_first_of_equal_attributes(rt: HostRuntime) -> Result<(), Fail> {
+fn a_declared_function_has_its_class(rt: HostRuntime) -> Result<(), Fail> {
     let alloc = rt.alloc();
-    let mut attrs = Attrs::new(alloc);
-    for (key, value) in [
-        ("entry_point", None),
-        ("profile", Some("base")),
-        ("profile", Some("x")),
-    ] {
-        attrs.push(Attr {
-            key: Seq::from_slice(alloc, key.as_bytes())?,
-            value: match value {
-                Some(text) => Some(Seq::from_slice(alloc, text.as_bytes())?),
-                None => None,
-            },
-        })?;
-    }
-    let mut funcs = Functions::new(alloc);
-    funcs.push(declared(alloc, attrs.copy(alloc)?)?)?;
-    let mut main = declared(alloc, attrs)?;
-    main.blocks = Some(Blocks::new(alloc));
-    funcs.push(main)?;
-    let module = Module {
-        globals: Seq::new(alloc),
-        funcs,
-        flags: Seq::new(alloc),
-    };
-    let entry = module.entry().ok_or("an entry")?;
-    assert_eq!(rt; entry, FuncId(1));
-    let main = module.funcs.as_slice().get(1).ok_or("a function")?;
-    let profile = main.attribute(b"profile").ok_or("an attribute")?;
-    let value = profile.value.as_ref().ok_or("a value")?;
-    assert_eq!(rt; value.as_slice(), b"base".as_slice());
-    assert!(rt; main.class(alloc)?.is_none());
-    assert_eq!(rt; main.signature(alloc)?.words().len(), 2);
-    Ok(())
-}
-
-fn declared(alloc: Global, attrs: Attrs) -> Result<Function, Memory> {
-    Ok(Function {
-        name: Name::Text(Bytes::new(alloc)),
-        ret: Ty::Void,
+    let allocate = Function {
+        name: Name::Text(Seq::from_slice(alloc, b"__quantum__rt__qubit_allocate")?),
+        ret: Ty::Qubit,
         params: 0,
         locals: Locals::new(alloc),
-        attrs,
+        attrs: Attrs::new(alloc),
         blocks: None,
-    })
+    };
+    assert_eq!(rt; allocate.class(alloc)?, Some(Class::Alloc));
+    Ok(())
 }

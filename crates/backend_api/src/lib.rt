@@ -3,8 +3,6 @@
 
 mod backend;
 mod operation;
-#[cfg(test)]
-mod tests;
 
 pub use backend::{Backend, Stop, Turned};
 pub use operation::{Answer, Answers, Arg, Args, Event, Events, Op, QubitRef, ResultRef};

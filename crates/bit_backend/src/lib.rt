@@ -8,6 +8,3 @@ mod table;
 
 pub use bits::Bits;
 pub use laws::{renaming_keeps_bits, renaming_keeps_fits, renaming_keeps_operations};
-
-#[cfg(test)]
-mod tests;

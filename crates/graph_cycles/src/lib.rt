@@ -6,6 +6,3 @@ pub mod laws;
 mod search;
 
 pub use cycles::{Graph, on_cycle};
-
-#[cfg(test)]
-mod tests;

@@ -13,6 +13,3 @@ pub use tree::{
     FlagParts, FlagValue, Function, Functions, Inst, InstKind, Insts, Locals, Module, ModuleFlags,
     Operand, Phi, PhiEntries, Phis, Term,
 };
-
-#[cfg(test)]
-mod tests;

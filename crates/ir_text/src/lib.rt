@@ -10,6 +10,3 @@ mod tok;
 
 pub use next::{next_token, next_token_in_pass, tokens_are_one};
 pub use tok::{LexCode, LexError, Span, Tok};
-
-#[cfg(test)]
-mod tests;

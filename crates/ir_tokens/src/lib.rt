@@ -24,6 +24,3 @@ pub use rule::Rule;
 pub use spelled::{name_at, spelling, string_at};
 pub use text::{Scanned, scan};
 pub use token::Token;
-
-#[cfg(test)]
-mod tests;

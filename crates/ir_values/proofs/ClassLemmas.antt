@@ -1,5 +1,5 @@
 -- The class of a declared function tells its types.
-use Rattle.std.proofs.Common.{◌≡◌, refl, ℕ, ◌+◌, ◌==◌, Bool, true, false, ◌&&◌, not, cond, None, Some, List, [], ◌∷◌, ◌++◌, flat_map, fold, count_by, option_map, find, sym, ◌∙◌, subst, arith}
+use Rattle.std.proofs.Common.{◌≡◌, refl, ℕ, ◌+◌, ◌==◌, Bool, true, false, ◌&&◌, not, cond, None, Some, List, [], ◌∷◌, ◌++◌, flat_map, fold, count_by, option_map, find, sym, ◌∙◌, subst}
 use Rattle.std.proofs.lemmas.Bool.{and_parts}
 use Rattle.std.proofs.lemmas.List.Elements.{All-cons, All-head, All-nil, All-tail}
 use Rattle.std.specs.Cmp.{unsigned_Decides}

@@ -1,5 +1,5 @@
 -- The text of a name, and the names that begin the runtime's and the quantum functions'.
-use Rattle.std.specs.Prelude.{ℕ, List, [], ◌++◌, codes}
+use Rattle.std.specs.Prelude.{ℕ, List, [], codes}
 use Rattle.ir_values.specs.declared.name.Name.{Name}
 use Rattle.ir_values.specs.declared.name.Name.TheVariants as name
 

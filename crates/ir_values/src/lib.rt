@@ -41,10 +41,3 @@ pub use value::Value;
 
 /// A list of bytes, which contracts see as the list of its numbers from 0 to 255.
 pub type Bytes = Seq<u8>;
-
-#[cfg(test)]
-mod call_tests;
-#[cfg(test)]
-mod integer_tests;
-#[cfg(test)]
-mod tests;

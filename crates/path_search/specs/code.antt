@@ -3,4 +3,3 @@ pub mod Steps
 pub mod Visit
 pub mod Answers
 pub mod Assembly
-pub mod Rows

@@ -17,6 +17,3 @@ pub use limits::Limits;
 pub use node::{Stop, Visited};
 pub use reason::Reason;
 pub use visit::Link;
-
-#[cfg(test)]
-mod tests;

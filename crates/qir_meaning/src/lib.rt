@@ -3,8 +3,6 @@
 
 mod end;
 mod laws;
-#[cfg(test)]
-mod tests;
 
 pub use end::{Ask, End};
 pub use laws::{

@@ -11,6 +11,3 @@ pub use in_memory::{Calls, MemSink, MemSource};
 pub use port::{Failed, Sink, Source};
 pub use stream::{StdSink, StdSource, SteadyRead, SteadyWrite};
 pub use transfer::{ReadError, WriteStop, read_all, write_all};
-
-#[cfg(test)]
-mod tests;

@@ -2,10 +2,10 @@
 ghost use Rattle.std.specs.Prelude.{◌≡◌, ◌==◌, map, if◌then◌else◌, IfOk};
 ghost use Rattle.path_search.specs.Paths.{Turn, Next, Bad};
 ghost use Rattle.path_search.specs.code.Steps.{target};
-ghost use Rattle.path_search.specs.code.Rows.{row};
+ghost use Rattle.library_tests.specs.Rows.{row};
 
-use crate::{Edge, Graph, Limits, Reason, Step, Stop, explore};
 use ir_values::{Memory, Seq};
+use path_search::{Edge, Graph, Limits, Reason, Step, Stop, explore};
 use std::alloc::Global;
 use std::test::Fail;
 

@@ -1,4 +1,8 @@
-use super::*;
+//! Modules: copies, edges, places and classes.
+use ir_module::{
+    Attrs, Block, Blocks, Cases, Function, Functions, Insts, Locals, Module, Operand, Phis, Place,
+    Places, Point, Spot, Term, successors,
+};
 use ir_values::{BlockId, Bytes, Class, Copies, FuncId, Int, Name, Seq, Ty, Value, Width};
 use std::test::Fail;
 

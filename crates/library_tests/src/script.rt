@@ -1,9 +1,10 @@
+//! A backend that answers given bits.
 ghost use Rattle.std.specs.Prelude.{IfOk};
 ghost use Rattle.backend_api.specs.Operations.{IsGate, IsMeasurement};
 
-use super::*;
 use backend_api::{Answer, Arg, Args, Backend, Op, QubitRef, ResultRef, Stop};
 use ir_values::{Bytes, Exact, Memory};
+use scripted_backend::Script;
 use std::alloc::Global;
 use std::test::Fail;
 

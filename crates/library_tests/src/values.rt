@@ -1,4 +1,9 @@
-use super::*;
+//! Values: doubles, signatures, integers, lists, names and the classes of functions.
+use ir_values::{
+    BinOp, Bytes, Cause, Class, Conv, Copies, Exact, Flags, GlobalId, Int, Name, Pred, Room, Seq,
+    Sig, Token, Ty, TyWord, Tys, Value, Width, binary, call_class, compare, convert, parse_decimal,
+    push_decimal, push_signed,
+};
 use std::alloc::Global;
 use std::test::Fail;
 
@@ -131,5 +136,37 @@ fn a_name_has_the_text_that_it_was_given(rt: HostRuntime) -> Result<(), Fail> {
     let name = Name::Text(Bytes::from_slice(rt.alloc(), b"main")?);
     assert_eq!(rt; name.text(), b"main".as_slice());
     assert_eq!(rt; Name::Number(7).text(), b"".as_slice());
+    Ok(())
+}
+
+/// What a signed division and a comparison give of two values of width 8, and what the first is when
+/// it is extended by its sign.
+fn computed(a: u64, b: u64) -> Option<(Result<u64, Cause>, bool, u64)> {
+    let a = Int::new(Width::W8, a)?;
+    let b = Int::new(Width::W8, b)?;
+    let flags = Flags {
+        nuw: false,
+        nsw: false,
+        exact: false,
+    };
+    let quotient = binary(BinOp::SDiv, flags, a, b).map(|i| i.bits());
+    let wide = convert(Conv::SExt, a, Width::W16).bits();
+    Some((quotient, compare(Pred::Slt, a, b), wide))
+}
+
+#[test]
+fn integers_are_computed_with(rt: HostRuntime) {
+    assert_eq!(rt; computed(0xf9, 4), Some((Ok(0xff), true, 0xfff9)));
+    assert_eq!(rt; computed(7, 0), Some((Err(Cause::DivZero), false, 7)));
+}
+
+#[test]
+fn a_gate_has_its_class(rt: HostRuntime) -> Result<(), Fail> {
+    let alloc = rt.alloc();
+    let mut params = Tys::new(alloc);
+    params.push(Ty::Qubit)?;
+    let sig = Sig::new(alloc, &Ty::Void, &params)?;
+    let name = Bytes::from_slice(alloc, b"__quantum__qis__h__body")?;
+    assert_eq!(rt; call_class(&name, &sig), Some(Class::Gate));
     Ok(())
 }

@@ -1,7 +1,8 @@
+//! The tokens of whole texts, and what they spell.
 ghost use Rattle.std.specs.Prelude.{◌<◌, ◌^◌, length};
 
-use super::*;
 use ir_text::{LexCode, LexError};
+use ir_tokens::{Kind, Lines, Position, Token, name_at, scan, spelling, string_at};
 use ir_values::{Bytes, Name};
 use std::alloc::Global;
 use std::process::Abort;

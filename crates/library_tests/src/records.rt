@@ -1,5 +1,6 @@
-use super::*;
+//! Copies of records.
 use ir_values::{Bytes, Copies, GlobalId, Token};
+use output_records::{Record, Records, Shown};
 use std::alloc::Global;
 use std::test::Fail;
 

@@ -1,7 +1,11 @@
+//! Whole texts read and written, and faults of streams.
 ghost use Rattle.std.specs.Prelude.{◌≤◌, false, refl, IfOk};
 
-use super::*;
 use ir_values::{Bytes, Memory};
+use qir_ports::{
+    Calls, Failed, MemSink, MemSource, ReadError, Sink, Source, StdSink, StdSource, SteadyRead,
+    SteadyWrite, read_all, write_all,
+};
 use std::alloc::Global;
 use std::io;
 use std::io::{ErrorKind, Read, Write};

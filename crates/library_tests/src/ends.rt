@@ -1,6 +1,7 @@
-use super::*;
+//! Copies of ends of runs.
 use backend_api::{Arg, Args, Op, QubitRef};
 use ir_values::{Bytes, Cause, Copies, Memory};
+use qir_meaning::{Ask, End};
 use std::alloc::Global;
 use std::test::Fail;
 

@@ -1,4 +1,5 @@
-use super::*;
+//! Copies of operations and events.
+use backend_api::{Answer, Arg, Args, Event, Events, Op, QubitRef, ResultRef};
 use ir_values::{Bytes, Copies, Int, Memory, Token, Width};
 use std::alloc::Global;
 use std::test::Fail;

@@ -1,8 +1,9 @@
+//! A backend whose qubits are classical bits. Operations are words, answers are letters.
 ghost use Rattle.std.specs.Prelude.{◌≡◌, count_by};
 ghost use Rattle.backend_api.specs.Operations.{is_result};
 
-use super::*;
 use backend_api::{Answer, Arg, Args, Backend, Op, QubitRef, ResultRef, Stop, Turned};
+use bit_backend::Bits;
 use ir_values::{Bytes, Copies, Int, Memory, Token, Width};
 use std::alloc::Global;
 use std::process::Abort;

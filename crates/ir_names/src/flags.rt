@@ -1,13 +1,15 @@
 //! Nodes and flags.
 #![tactic(auto, using(crate::proofs::Parts::fails_front, crate::proofs::Parts::fails_behind, crate::proofs::Parts::clean))]
 
-ghost use Rattle.std.specs.Prelude.{◌≡◌, ◌-◌, ◌^◌, map, IfOk};
+ghost use Rattle.std.specs.Prelude.{◌≡◌, ◌-◌, ◌^◌, ◌&&◌, not, is_some, map, IfOk};
 ghost use Rattle.std.specs.List.{filter_map, flat_map};
 ghost use Rattle.std.specs.Option.{option_and_then};
 ghost use Rattle.ir_grammar.specs.SideRules.{bits_of_sign};
+ghost use Rattle.ir_names.specs.Faults.{fault_if};
 ghost use Rattle.ir_names.specs.Metadata as spec;
 ghost use Rattle.ir_names.specs.code.Answers.{Gives};
 ghost use Rattle.ir_names.specs.code.Seen.{outside};
+ghost use Rattle.ir_names.specs.declared.fault.NameCode.TheVariants as bad;
 
 use crate::fault::{NameCode, Stop};
 use crate::functions::push_some;
@@ -245,6 +247,19 @@ impl Outer<'_> {
         Ok(())
     }
 
+    /// A node is a flag where it is listed as one. An unlisted one isn't looked at.
+    fn listed_node(&self, token: &Token, elems: &[ElemSyntax]) -> Result<(), Stop>
+        ensures { let s = outside self.now in Gives (fault_if (is_some (s.listed token.now) && not (is_some (spec.flag_of s elems.now))) bad.BadFlag token.now) tt result }
+    {
+        match self.globals.listed.table.number(&written(token)) {
+            None => Ok(()),
+            Some(_) => match self.flag(elems)? {
+                Some(_) => Ok(()),
+                None => Err(Stop::at(NameCode::BadFlag, token)),
+            },
+        }
+    }
+
     /// A node that stands at an item has a new number, and is a flag where it is listed as one.
     fn new_node(&self, item: u64, token: &Token, elems: &[ElemSyntax]) -> Result<(), Stop>
         ensures { Gives (spec.own_faults (outside self.now) item token.now elems.now) tt result }
@@ -253,12 +268,7 @@ impl Outer<'_> {
         if is_before(self.globals.nodes.number(&number), item) {
             return Err(Stop::at(NameCode::Duplicate, token));
         }
-        let flag = self.flag(elems)?;
-        if self.globals.listed.table.number(&number).is_some() && flag.is_none() {
-            Err(Stop::at(NameCode::BadFlag, token))
-        } else {
-            Ok(())
-        }
+        self.listed_node(token, elems)
     }
 
     /// A node that stands at an item.

@@ -112,7 +112,8 @@ term_fits term.RetVoid = true
 term_fits (term.Ret t a) = typed_fits (t, a)
 term_fits (term.Br b) = true
 term_fits (term.CondBr c on_true on_false) = operand_fits boolean c
-term_fits (term.Switch (ty.Int w) a default cases) = operand_fits (ty.Int w) a && list_all (λ c. int_fits w c.0) cases
+-- a case is written with an integer type of its own
+term_fits (term.Switch (ty.Int w) a default cases) = operand_fits (ty.Int w) a && list_all (λ c. int_fits c.0.width c.0) cases
 term_fits (term.Switch t a default cases) = false
 
 -- the type of what an instruction defines

@@ -1,0 +1,5 @@
+pub mod Faults
+pub mod Required
+pub mod Rules
+pub mod Typing
+pub mod code

@@ -1,1 +1,5 @@
+pub mod Facts
+pub mod First
+pub mod Spots
+pub mod Unique
 pub mod Worked

@@ -1,4 +1,5 @@
 pub mod Faults
+pub mod Laws
 pub mod Required
 pub mod Rules
 pub mod Typing

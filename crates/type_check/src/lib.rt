@@ -2,5 +2,7 @@
 #![tactic(auto)]
 
 mod code;
+mod laws;
 
 pub use code::TypeCode;
+pub use laws::{modules_are_typed_or_faulty, modules_have_one_first_fault};

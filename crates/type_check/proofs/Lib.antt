@@ -1,3 +1,4 @@
+pub mod Equal
 pub mod Facts
 pub mod First
 pub mod Spots

@@ -1,0 +1,9 @@
+pub mod Below
+pub mod Blocks
+pub mod Integers
+pub mod Moves
+pub mod Numbers
+pub mod Steps
+pub mod Values
+pub mod Wholes
+pub mod Worked

@@ -1,0 +1,10 @@
+pub mod Algebra
+pub mod Factoring
+pub mod Forms
+pub mod TypesBothWays
+pub mod Types
+pub mod Growing
+pub mod Instructions
+pub mod Blocks
+pub mod Metadata
+pub mod Module

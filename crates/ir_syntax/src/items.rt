@@ -48,7 +48,7 @@ fn metadata<'a>(alloc: Global, cursor: &mut Cursor<'a, Token>) -> Result<ItemSyn
 
 /// A function or metadata.
 #[tactic(auto, unfolding(ir_grammar::specs::Module::function, ir_grammar::specs::Functions::declaration, ir_grammar::specs::Functions::definition))]
-fn other_entry<'a>(alloc: Global, cursor: &mut Cursor<'a, Token>) -> Result<ItemSyntax, Stop<'a>>
+fn function_or_metadata<'a>(alloc: Global, cursor: &mut Cursor<'a, Token>) -> Result<ItemSyntax, Stop<'a>>
     ensures { Gives (alt spec.function spec.metadata) cursor.old cursor.new result }
 {
     if cursor.next_is_one_of(&[Kind::Declare, Kind::Define]) {
@@ -60,13 +60,13 @@ fn other_entry<'a>(alloc: Global, cursor: &mut Cursor<'a, Token>) -> Result<Item
 
 /// An item that is no header and no type line.
 #[tactic(auto, unfolding(ir_grammar::specs::Module::constant_line, ir_grammar::specs::Words::global))]
-fn entry<'a>(alloc: Global, cursor: &mut Cursor<'a, Token>) -> Result<ItemSyntax, Stop<'a>>
+fn other_item<'a>(alloc: Global, cursor: &mut Cursor<'a, Token>) -> Result<ItemSyntax, Stop<'a>>
     ensures { Gives (alt spec.constant_line (alt spec.function spec.metadata)) cursor.old cursor.new result }
 {
     if cursor.next_is(Kind::Global) {
         constant_line(cursor)
     } else {
-        other_entry(alloc, cursor)
+        function_or_metadata(alloc, cursor)
     }
 }
 
@@ -123,7 +123,7 @@ impl Part for Items {
         if header_comes(cursor) {
             header(cursor)
         } else {
-            entry(alloc, cursor)
+            other_item(alloc, cursor)
         }
     }
 }

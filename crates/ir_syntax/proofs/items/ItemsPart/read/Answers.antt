@@ -10,4 +10,4 @@ returns-then-header_comes c = gives_first header (alt constant_line (alt functio
 
 pub returns-else-header_comes : goal.returns-else-header_comes
 unfolding item
-returns-else-header_comes c = gives_second header (alt constant_line (alt function metadata)) header_starts c.args.cursor.now c.entry.new.cursor c.entry.result c.header_comes.result c.header_comes.ensures c.if-header_comes.false c.entry.ensures
+returns-else-header_comes c = gives_second header (alt constant_line (alt function metadata)) header_starts c.args.cursor.now c.other_item.new.cursor c.other_item.result c.header_comes.result c.header_comes.ensures c.if-header_comes.false c.other_item.ensures

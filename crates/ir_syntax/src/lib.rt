@@ -17,6 +17,3 @@ mod refusal;
 pub use fault::{SyntaxCode, SyntaxFault, SyntaxStop};
 pub use laws::each_text_has_one_answer;
 pub use read::read_syntax;
-
-#[cfg(test)]
-mod tests;

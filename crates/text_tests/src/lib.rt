@@ -2,6 +2,8 @@
 #![tactic(auto)]
 
 #[cfg(test)]
+mod syntax;
+#[cfg(test)]
 mod text;
 #[cfg(test)]
 mod tokens;

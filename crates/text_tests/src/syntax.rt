@@ -1,6 +1,7 @@
+//! Syntax trees of texts, and the code and byte of their first faults.
 ghost use Rattle.std.specs.Prelude.{◌<◌, ◌-◌, ◌^◌, length};
 
-use super::*;
+use ir_syntax::{SyntaxCode, SyntaxFault, SyntaxStop, read_syntax};
 use std::alloc::Global;
 use std::process::Abort;
 use std::test::Fail;

@@ -6,7 +6,7 @@ use Rattle.grammar.specs.declared.fault.Fault.{Fault}
 use Rattle.grammar.specs.declared.fault.Fault.TheVariants.{Unexpected, Broken}
 use Rattle.grammar.specs.Grammar.{Alphabet, Grammar, seq, alt, opt, rep, as_tree, dep, grow, marked}
 use Rattle.grammar.specs.Language.{Sentence, many, steps, Derives, Ending, Fine, Marked, Breaks, Front, IsFault, Holds}
-use Rattle.grammar.specs.Laws.{HoldsOnce}
+use Rattle.grammar.specs.Laws.{HoldsOnce, PrefixClosed}
 use Rattle.published_grammar.specs.SameLanguage.{SameSentences, SamePrefixes, SameAnswers}
 
 pub record Within {L : Alphabet} {A : Type 0} (g h : Grammar L A) : Type 0 where
@@ -167,3 +167,7 @@ same_answers g h p ts r = (answer_kept g h p.there p.back ts r, answer_kept h g 
 -- where exactly one answer holds of one grammar, it does so of the other
 pub once_kept : {L : Alphabet} {A : Type 0} (g h : Grammar L A) → Same g h → HoldsOnce h → HoldsOnce g
 once_kept g h p once ts = let o = once ts in (o.0, answer_kept h g p.back p.there ts o.0 o.1, λ q w. o.2 q (answer_kept g h p.there p.back ts q w))
+
+-- where sentences, and the beginnings of viable prefixes, are viable prefixes of one grammar, they are of the other
+pub closed_kept : {L : Alphabet} {A : Type 0} (g h : Grammar L A) → Same g h → PrefixClosed h → PrefixClosed g
+closed_kept g h p c = (λ ts x w. p.back.fronts Fine ts (c.0 ts x (p.there.sentences ts x w)), λ us vs w. p.back.fronts Fine us (c.1 us vs (p.there.fronts Fine (us ++ vs) w)))

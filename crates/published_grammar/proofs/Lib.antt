@@ -1,4 +1,5 @@
 pub mod Algebra
+pub mod Aside
 pub mod Factoring
 pub mod Forms
 pub mod TypesBothWays

@@ -1,12 +1,11 @@
 //! The published grammar and the factored one are grammars of one language.
 ghost use Rattle.std.specs.Prelude.{ℕ};
-ghost use Rattle.grammar.specs.Laws.{HoldsOnce};
+ghost use Rattle.grammar.specs.Aside.{SameFault};
+ghost use Rattle.grammar.specs.Laws.{HoldsOnce, PrefixClosed};
 ghost use Rattle.ir_grammar.specs.Module as factored;
 ghost use Rattle.published_grammar.specs.Module as published;
-ghost use Rattle.published_grammar.specs.Types.{type_at, type_by, or_void, parameters};
-ghost use Rattle.published_grammar.specs.SameLanguage.{SameSentences, SamePrefixes, SameAnswers};
-
-use ir_grammar::one_tree_or_fault;
+ghost use Rattle.published_grammar.specs.SameLanguage.{SameAnswers, SamePrefixes, SameSentences};
+ghost use Rattle.published_grammar.specs.Types.{or_void, parameters, type_at, type_by};
 
 /// The two grammars have the same sentences, with the same trees.
 pub fn same_sentences()
@@ -25,14 +24,28 @@ pub fn same_answers()
 {}
 
 /// By the published grammar too, every list of tokens has exactly one tree, or exactly one first fault.
-pub fn one_published_answer()
+pub fn one_tree_or_fault()
     ensures { HoldsOnce published.module_text }
 {
-    one_tree_or_fault();
+    ir_grammar::one_tree_or_fault();
 }
 
-/// The production of types, which contains itself and is cut at a depth, holds of itself: the cut takes no sentence and no
-/// viable prefix away.
+/// By the published grammar too, sentences, and the beginnings of viable prefixes, are viable prefixes.
+pub fn prefixes_begin_sentences()
+    ensures { PrefixClosed published.module_text }
+{
+    ir_grammar::prefixes_begin_sentences();
+}
+
+/// By the published grammar too, the first fault is the same where viable prefixes leave the side rules aside.
+pub fn side_rules_aside()
+    ensures { SameFault published.module_text }
+{
+    ir_grammar::side_rules_aside();
+}
+
+/// The production of types, which contains itself on its left and is cut at a depth, holds of itself: the cut takes no
+/// sentence and no viable prefix away.
 pub fn types_hold_of_themselves()
     ensures sentences { (left : ℕ) → SameSentences (type_at left) (type_by (or_void (type_at left)) (parameters left)) }
     ensures prefixes { (left : ℕ) → SamePrefixes (type_at left) (type_by (or_void (type_at left)) (parameters left)) }

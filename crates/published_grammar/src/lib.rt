@@ -10,5 +10,6 @@
 mod laws;
 
 pub use laws::{
-    one_published_answer, same_answers, same_prefixes, same_sentences, types_hold_of_themselves,
+    one_tree_or_fault, prefixes_begin_sentences, same_answers, same_prefixes, same_sentences,
+    side_rules_aside, types_hold_of_themselves,
 };

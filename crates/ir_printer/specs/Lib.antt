@@ -1,0 +1,10 @@
+pub mod code
+pub mod Canonical
+pub mod Functions
+pub mod Groups
+pub mod Instructions
+pub mod Metadata
+pub mod Operands
+pub mod Pieces
+pub mod Spellings
+pub mod Types

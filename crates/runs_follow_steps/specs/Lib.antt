@@ -1,0 +1,3 @@
+pub mod Describes
+pub mod Laws
+pub mod Meets

@@ -1,0 +1,12 @@
+pub mod Calls
+pub mod Edges
+pub mod Integers
+pub mod Operations
+pub mod Records
+pub mod Results
+pub mod Returns
+pub mod Settings
+pub mod Steps
+pub mod Values
+pub mod Works
+pub mod code

@@ -1,0 +1,12 @@
+//! Configurations, which constant evaluation walks over, and the static step between them.
+#![tactic(auto)]
+
+mod config;
+mod phase;
+mod turn;
+mod work;
+
+pub use config::{Config, Frame, Names};
+pub use phase::Phase;
+pub use turn::{Move, Moves, Turn};
+pub use work::{Work, WorkFrame, WorkNames};

@@ -1,7 +1,14 @@
 pub mod Bound
+pub mod Calls
+pub mod Declared
+pub mod Edges
 pub mod Flows
 pub mod Frames
 pub mod Integers
+pub mod Live
 pub mod Looks
 pub mod Packing
+pub mod Ranges
 pub mod Same
+pub mod Starts
+pub mod Steps

@@ -9,4 +9,3 @@ pub mod Settings
 pub mod Steps
 pub mod Values
 pub mod Works
-pub mod code

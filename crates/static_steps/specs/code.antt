@@ -1,2 +1,0 @@
--- Companions of the code. Nothing here has to be believed.
-pub mod Phases

@@ -1,6 +1,5 @@
 -- Where an instruction leads: its result has a name, or it gives nothing.
-use Rattle.std.proofs.Common.{◌≡◌, ℕ, ◌≤◌, Bool, true, false, Option, None, Some, List, [], ◌∷◌, ◌++◌, length, refl, sym, ap, subst, arith}
-use Rattle.std.specs.Prelude.{if◌then◌else◌}
+use Rattle.std.proofs.Common.{◌≡◌, ℕ, ◌≤◌, Bool, true, false, Option, None, Some, List, [], ◌∷◌, ◌++◌, length, refl, sym, subst, arith}
 use Rattle.ir_module.specs.declared.places.Point.{Point}
 use Rattle.ir_module.specs.declared.tree.Module.{Module}
 use Rattle.ir_values.specs.declared.ids.LocalId.{LocalId}
@@ -120,7 +119,6 @@ module _ (s : Setting) (ds : List IntValue) (env : Env) (us : List Waiting) (st 
     pub kept-if : (ok : Bool) (item : Item) (tk : Tick) → DidMeets s.m s.live tk kept-moves One ds (did ds st item) → Meets tk (kept_if s x ok item)
     kept-if true item tk h = h
     kept-if false item tk h = tt
-
 
     -- a value of the configuration, with a name more
     pub gives-val : (a : Val) → In ds a → Meets (tick_of v (gives s.w.top.at env x st (valued ds a) st)) (Goes (move_to s.live (after a) ∷ []) None One)

@@ -18,7 +18,6 @@ use Rattle.qir_meaning.specs.code.Simulation.{Whole, On, tick_of, gives_back}
 use Rattle.qir_meaning.specs.code.Steps.{Waiting}
 use Rattle.kept_items.specs.declared.item.Code.TheVariants as code
 use Rattle.kept_items.specs.declared.target.Kind.TheVariants as kind
-use Rattle.kept_items.specs.declared.val.Dyn.{Dyn}
 use Rattle.kept_items.specs.declared.val.Val.{Val}
 use Rattle.kept_items.specs.declared.val.Val.TheVariants.{Known, Dynamic}
 use Rattle.kept_items.specs.Items.{valued}
@@ -27,7 +26,7 @@ use Rattle.static_steps.specs.declared.turn.Turn.TheVariants.{Exits, Bad}
 use Rattle.static_steps.specs.declared.work.Work.{Work}
 use Rattle.static_steps.specs.declared.work.WorkFrame.{WorkFrame}
 use Rattle.static_steps.specs.Calls.{enters, parameters}
-use Rattle.static_steps.specs.Returns.{back_turn, call_result, exits, exits_dynamic, exits_int, resumes, result_at}
+use Rattle.static_steps.specs.Returns.{back_turn, call_result, exits, resumes, result_at}
 use Rattle.static_steps.specs.Settings.{Setting, move_to}
 use Rattle.static_steps.specs.Values.{Names, drop_result, keep, look, put_result}
 use Rattle.runs_follow_steps.specs.Describes.{Fit, WaitFits, AllWait, Fits, IsNot, ResultInRange, at_name, locals_in_some}

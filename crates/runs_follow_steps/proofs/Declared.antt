@@ -32,7 +32,7 @@ use Rattle.qir_meaning.specs.code.Simulation.{Whole, Tick, tick_of}
 use Rattle.qir_meaning.specs.code.Steps.{Waiting}
 use Rattle.kept_items.specs.declared.item.Choice.TheVariants.{One}
 use Rattle.kept_items.specs.declared.item.Item.{Item}
-use Rattle.kept_items.specs.declared.item.Item.TheVariants.{Operation, Read, Equal}
+use Rattle.kept_items.specs.declared.item.Item.TheVariants.{Read, Equal}
 use Rattle.kept_items.specs.declared.target.Kind.TheVariants as kind
 use Rattle.kept_items.specs.declared.val.Val.{Val}
 use Rattle.kept_items.specs.declared.val.Val.TheVariants.{Known, Dynamic}
@@ -44,11 +44,11 @@ use Rattle.static_steps.specs.declared.turn.Turn.{Turn}
 use Rattle.static_steps.specs.declared.turn.Turn.TheVariants.{Bad, Lost}
 use Rattle.static_steps.specs.declared.work.Work.{Work}
 use Rattle.static_steps.specs.Calls.{class_turn, silent_turn}
-use Rattle.static_steps.specs.Operations.{issues, issues_in, is_irreversible, is_res, measures, one_more_arg, operates, operates_on, or_cause, phase_after, returning_on, returning_turn, returns_in, same_truth, typed_args, wrong_arg, wrong_args}
+use Rattle.static_steps.specs.Operations.{issues, issues_in, is_irreversible, is_res, measures, one_more_arg, operates, operates_on, or_cause, phase_after, returning_on, returning_turn, returns_in, typed_args, wrong_arg, wrong_args}
 use Rattle.static_steps.specs.Records.{count_output, int_output, outputs, result_output, value_output}
 use Rattle.static_steps.specs.Results as results
 use Rattle.static_steps.specs.Results.{both_bits, const_bit, equals, held_in, reads, releases_known}
-use Rattle.static_steps.specs.Settings.{Setting, bound, gives_dynamic, gives_known, goes, kept, move_to, passed, silent}
+use Rattle.static_steps.specs.Settings.{Setting, bound, gives_dynamic, gives_known, goes, move_to, passed, silent}
 use Rattle.runs_follow_steps.specs.Describes.{Fits, IsNot, ResultInRange}
 use Rattle.runs_follow_steps.specs.Meets.{DidMeets, TurnMeets}
 use Rattle.runs_follow_steps.proofs.Bound.{reached, bound-with, passed-with, gives-known, gives-fresh, whole}

@@ -19,14 +19,13 @@ use Rattle.qir_meaning.specs.code.Steps.{Waiting}
 use Rattle.kept_items.specs.declared.item.Choice.{Choice}
 use Rattle.kept_items.specs.declared.item.Choice.TheVariants.{One, Branch, Switch}
 use Rattle.kept_items.specs.declared.target.Kind.TheVariants as kind
-use Rattle.kept_items.specs.declared.val.Dyn.{Dyn}
 use Rattle.kept_items.specs.declared.val.Val.{Val}
 use Rattle.kept_items.specs.declared.val.Val.TheVariants.{Known, Dynamic}
 use Rattle.kept_items.specs.Items.{case_of, chosen, dynamic, valued}
 use Rattle.kept_items.specs.Targets.{has_ints, has_switch}
 use Rattle.static_steps.specs.declared.turn.Move.{Move}
 use Rattle.static_steps.specs.declared.turn.Turn.TheVariants.{Bad}
-use Rattle.static_steps.specs.Edges.{all_along, along, along_to, arrived, branch_known, branch_turn, case_values, edges_to, edges_turn, phis_bring, switch_dynamic, switch_known, switch_turn, targets}
+use Rattle.static_steps.specs.Edges.{all_along, along, along_to, arrived, branch_turn, case_values, edges_to, edges_turn, phis_bring, switch_turn, targets}
 use Rattle.static_steps.specs.Integers.{is_bit}
 use Rattle.static_steps.specs.Settings.{Setting, at_point}
 use Rattle.static_steps.specs.Values.{Names, look, put_some, val_of}

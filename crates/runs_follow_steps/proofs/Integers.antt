@@ -1,5 +1,5 @@
 -- What a run does beside the static step of instructions on integers and of `select`.
-use Rattle.std.proofs.Common.{◌≡◌, ℕ, Bool, true, false, Option, None, Some, List, [], ◌∷◌, ◌++◌, length, refl, sym, ap, subst, Result, Ok, Err}
+use Rattle.std.proofs.Common.{◌≡◌, Bool, true, false, Option, List, [], ◌∷◌, length, refl, sym, subst, Result, Ok, Err}
 use Rattle.std.specs.Prelude.{if◌then◌else◌, ◌||◌, ◌&&◌}
 use Rattle.ir_module.specs.declared.places.Point.{Point}
 use Rattle.ir_module.specs.declared.tree.InstKind.TheVariants as kind
@@ -19,7 +19,7 @@ use Rattle.ir_values.specs.Arithmetic.{allows, binary_of, compare_of, converts, 
 use Rattle.ir_values.specs.Int.{IntValue}
 use Rattle.qir_meaning.specs.Effects.{gives, is_one}
 use Rattle.qir_meaning.specs.Moves.{performs, computes}
-use Rattle.qir_meaning.specs.code.Simulation.{Whole, Tick, tick_of}
+use Rattle.qir_meaning.specs.code.Simulation.{Whole, tick_of}
 use Rattle.qir_meaning.specs.State.{Env, State, next}
 use Rattle.qir_meaning.specs.State as run
 use Rattle.qir_meaning.specs.code.Steps.{Waiting}
@@ -32,11 +32,10 @@ use Rattle.kept_items.specs.declared.val.Val.TheVariants.{Known, Dynamic}
 use Rattle.kept_items.specs.Items.{Did, Gave, binary_did, bit_int, computed, did, dynamic, icmp_did, select_did, valued}
 use Rattle.kept_items.specs.Targets.{has_ints}
 use Rattle.static_steps.specs.declared.turn.Turn.{Turn}
-use Rattle.static_steps.specs.declared.turn.Turn.TheVariants.{Goes, Lost}
-use Rattle.static_steps.specs.declared.work.Work.{Work}
-use Rattle.static_steps.specs.Integers.{binary_known, binary_turn, convert_known, convert_turn, folded, icmp_known, icmp_turn, is_bit, is_bitwise, is_number, select_dynamic, select_ints, select_kept, select_turn}
-use Rattle.static_steps.specs.Settings.{Setting, bound, gives_known, goes, kept_if, move_to}
-use Rattle.static_steps.specs.Values.{same_known, same_value, same_width}
+use Rattle.static_steps.specs.declared.turn.Turn.TheVariants.{Lost}
+use Rattle.static_steps.specs.Integers.{binary_known, binary_turn, convert_known, convert_turn, folded, icmp_known, icmp_turn, is_bit, is_bitwise, is_number, select_kept, select_turn}
+use Rattle.static_steps.specs.Settings.{Setting, bound, gives_known, goes, kept_if}
+use Rattle.static_steps.specs.Values.{same_known, same_width}
 use Rattle.runs_follow_steps.specs.Describes.{Fits, IsNot, ResultInRange}
 use Rattle.runs_follow_steps.specs.Meets.{DidMeets, TurnMeets}
 use Rattle.runs_follow_steps.proofs.Bound.{gives-fresh, gives-known, gives-val, kept-if, kept-moves, whole}

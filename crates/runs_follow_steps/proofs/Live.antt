@@ -1,5 +1,5 @@
 -- Names that walks find live give what the proofs go by.
-use Rattle.std.proofs.Common.{◌≡◌, ◌↔◌, ℕ, zero, suc, ◌+◌, ◌-◌, ◌<◌, ◌≤◌, Bool, true, false, Option, None, Some, List, [], ◌∷◌, ◌++◌, length, map, Contains, flat_map, refl, sym, ap, ◌∙◌, subst, arith}
+use Rattle.std.proofs.Common.{◌≡◌, ℕ, zero, suc, ◌+◌, ◌-◌, ◌<◌, ◌≤◌, Bool, true, false, Option, None, Some, List, [], ◌∷◌, ◌++◌, length, map, Contains, flat_map, refl, sym, ap, ◌∙◌, subst, arith}
 use Rattle.std.proofs.lemmas.List.Elements.{Contains-append_left, Contains-append_right}
 use Rattle.std.specs.Option.{option_to_list}
 use Rattle.std.specs.Prelude.{◌==◌, ⊤, if◌then◌else◌, slice_get, slice_index_or}
@@ -21,7 +21,7 @@ use Rattle.ir_values.specs.declared.ids.FuncId.{FuncId}
 use Rattle.ir_values.specs.declared.ids.LocalId.{LocalId}
 use Rattle.ir_module.specs.Operands.{step_defines}
 use Rattle.name_flow.specs.Uses.{reads, step_reads, entries_read, phis_read}
-use Rattle.name_flow.specs.Walks.{first_point, successors, IsLive}
+use Rattle.name_flow.specs.Walks.{first_point, successors}
 use Rattle.qir_meaning.specs.Moves.{given, block_in, entry_for}
 use Rattle.qir_meaning.specs.State.{next}
 use Rattle.runs_follow_steps.specs.Describes.{IsNot, ResultInRange, TellsLive}

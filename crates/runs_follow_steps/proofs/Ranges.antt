@@ -1,9 +1,9 @@
 -- Where the numbers of a module are in range, so are the results of its phis and instructions.
-use Rattle.std.proofs.Common.{◌≡◌, ℕ, zero, suc, ◌<◌, Bool, true, false, Option, None, Some, List, [], ◌∷◌, length, refl, sym, ap, ◌∙◌, subst, arith}
+use Rattle.std.proofs.Common.{◌≡◌, ℕ, suc, ◌<◌, true, Option, None, Some, List, [], ◌∷◌, length, refl, sym, ◌∙◌, subst}
 use Rattle.std.proofs.lemmas.Bool.{and_parts, ltb-true}
 use Rattle.std.specs.List.{list_all}
 use Rattle.std.specs.Option.{option_to_list}
-use Rattle.std.specs.Prelude.{◌&&◌, ⊤, nat_le, nat_lt, slice_get}
+use Rattle.std.specs.Prelude.{◌&&◌, nat_le, nat_lt, slice_get}
 use Rattle.ir_module.specs.declared.places.Point.{Point}
 use Rattle.ir_module.specs.declared.tree.Block.{Block}
 use Rattle.ir_module.specs.declared.tree.Function.{Function}
@@ -12,13 +12,13 @@ use Rattle.ir_module.specs.declared.tree.Module.{Module}
 use Rattle.ir_module.specs.declared.tree.Phi.{Phi}
 use Rattle.ir_module.specs.Numbered.{all_steps, local_in_range, numbers_in_range, operand_in_range, step_in_range}
 use Rattle.ir_module.specs.Operands.{step_blocks, step_defines, step_operands}
-use Rattle.ir_module.specs.Steps.{Step, PhiAt, InstAt, TermAt, NoStep, step_at, step_of_point, step_in_module}
-use Rattle.ir_module.specs.Tree.{block_at, blocks_of}
+use Rattle.ir_module.specs.Steps.{Step, PhiAt, InstAt, step_of_point, step_in_module}
+use Rattle.ir_module.specs.Tree.{blocks_of}
 use Rattle.ir_module.proofs.StepLemmas.{module-passes}
 use Rattle.ir_values.specs.declared.ids.BlockId.{BlockId}
 use Rattle.ir_values.specs.declared.ids.FuncId.{FuncId}
 use Rattle.ir_values.specs.declared.ids.LocalId.{LocalId}
-use Rattle.qir_meaning.specs.Moves.{block_in, given}
+use Rattle.qir_meaning.specs.Moves.{block_in}
 use Rattle.runs_follow_steps.specs.Describes.{ResultInRange, locals_in, locals_in_some}
 use Rattle.runs_follow_steps.proofs.Flows.{InRange}
 use Rattle.runs_follow_steps.proofs.Live.{in-function, phi-at, step-is}

@@ -1,5 +1,5 @@
 -- Calls (LLVM Language Reference, 'call Instruction').
-use Rattle.std.specs.Prelude.{ℕ, suc, Bool, true, false, Option, None, Some, List, [], ◌∷◌}
+use Rattle.std.specs.Prelude.{ℕ, suc, true, false, Option, None, Some, List, [], ◌∷◌}
 use Rattle.ir_module.specs.declared.tree.Block.{Block}
 use Rattle.ir_module.specs.declared.tree.Function.{Function}
 use Rattle.ir_module.specs.Classes.{class_of_function}

@@ -1,6 +1,8 @@
 pub mod Calls
+pub mod Configurations
 pub mod Edges
 pub mod Integers
+pub mod Laws
 pub mod Operations
 pub mod Records
 pub mod Results
@@ -9,3 +11,4 @@ pub mod Settings
 pub mod Steps
 pub mod Values
 pub mod Works
+pub mod code

@@ -15,7 +15,7 @@ use Rattle.ir_values.specs.Calls.{qis}
 use Rattle.kept_items.specs.declared.item.Item.TheVariants.{Operation}
 use Rattle.kept_items.specs.declared.target.Kind.TheVariants as kind
 use Rattle.kept_items.specs.declared.val.Val.{Val}
-use Rattle.kept_items.specs.declared.val.Val.TheVariants.{Known, Dynamic}
+use Rattle.kept_items.specs.declared.val.Val.TheVariants.{Known}
 use Rattle.kept_items.specs.Targets.{is_base}
 use Rattle.static_steps.specs.declared.phase.Phase.{Phase}
 use Rattle.static_steps.specs.declared.phase.Phase.TheVariants as phase

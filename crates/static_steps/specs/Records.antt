@@ -1,5 +1,5 @@
 -- Output records (QIR specification, 'Output Recording').
-use Rattle.std.specs.Prelude.{if◌then◌else◌, Option, None, Some, List, [], ◌∷◌}
+use Rattle.std.specs.Prelude.{if◌then◌else◌, Option, None, Some, List, ◌∷◌}
 use Rattle.ir_values.specs.declared.class.Class.{Class}
 use Rattle.ir_values.specs.declared.class.Class.TheVariants as class
 use Rattle.ir_values.specs.declared.ty.Ty.{Ty}

@@ -1,5 +1,5 @@
 -- Returns (LLVM Language Reference, 'ret Instruction').
-use Rattle.std.specs.Prelude.{◌-◌, ◌==◌, ◌||◌, Bool, false, if◌then◌else◌, ℤ, pos, Option, None, Some, List, [], ◌∷◌}
+use Rattle.std.specs.Prelude.{◌-◌, ◌==◌, ◌||◌, if◌then◌else◌, pos, Option, None, Some, List, [], ◌∷◌}
 use Rattle.ir_module.specs.declared.places.Point.{Point}
 use Rattle.ir_module.specs.declared.tree.Module.{Module}
 use Rattle.ir_module.specs.Steps.{Step, PhiAt, InstAt, TermAt, NoStep, step_in_module}

@@ -1,6 +1,7 @@
 //! Configurations: what constant evaluation knows between two steps.
 ghost use Rattle.std.proofs.Common.{rules};
 ghost use Rattle.ir_values.specs.Equal.{equal_decides};
+ghost use Rattle.static_steps.specs.code.Phases.{same_phase-decides};
 
 use crate::phase::Phase;
 use ir_module::Point;
@@ -59,4 +60,8 @@ impl Copies for Config {
             phase: self.phase,
         })
     }
+}
+
+impl Exact for Config {
+    ghost exact = { Prim.search (rules, equal_decides, same_phase-decides) };
 }

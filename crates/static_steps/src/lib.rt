@@ -2,6 +2,7 @@
 #![tactic(auto)]
 
 mod config;
+pub mod laws;
 mod phase;
 mod turn;
 mod work;

@@ -1,0 +1,4 @@
+mod WorkedCalls
+mod WorkedIntegers
+pub mod WorkedModules
+mod WorkedPaths

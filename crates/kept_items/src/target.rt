@@ -1,4 +1,7 @@
 //! What lowered programs may hold, and why a program can't be lowered.
+ghost use Rattle.std.specs.Prelude.{◌≡◌};
+ghost use Rattle.kept_items.specs.Targets.{has_ints, has_loops, has_returns, has_switch, is_base};
+
 use ir_values::Cause;
 
 /// The capabilities of the Adaptive Profile that a target names (QIR specification, 'Adaptive
@@ -43,4 +46,56 @@ pub enum Kind {
     Capability,
     /// It traps in every run, or an operand has no value.
     Traps(Cause),
+}
+
+impl Target {
+    /// Whether it is the Base Profile.
+    pub fn is_base(self) -> bool
+        ensures { result ≡ is_base self }
+    {
+        match self {
+            Target::Base => true,
+            Target::Adaptive(_) => false,
+        }
+    }
+
+    /// Whether it has computations on integers.
+    pub fn has_ints(self) -> bool
+        ensures { result ≡ has_ints self }
+    {
+        match self {
+            Target::Base => false,
+            Target::Adaptive(caps) => caps.ints,
+        }
+    }
+
+    /// Whether it has terminators with more than two targets.
+    pub fn has_switch(self) -> bool
+        ensures { result ≡ has_switch self }
+    {
+        match self {
+            Target::Base => false,
+            Target::Adaptive(caps) => caps.switch,
+        }
+    }
+
+    /// Whether the entry may return another code than the known 0.
+    pub fn has_returns(self) -> bool
+        ensures { result ≡ has_returns self }
+    {
+        match self {
+            Target::Base => true,
+            Target::Adaptive(caps) => caps.returns,
+        }
+    }
+
+    /// Whether it has branches that lead back.
+    pub fn has_loops(self) -> bool
+        ensures { result ≡ has_loops self }
+    {
+        match self {
+            Target::Base => false,
+            Target::Adaptive(caps) => caps.loops,
+        }
+    }
 }

@@ -28,8 +28,9 @@ use Rattle.output_records.specs.declared.record.Shown.TheVariants as shown
 use Rattle.qir_meaning.specs.Effects.{is_one, same_bit, recorded, argument, arguments, known_bit, reading, bit_value, gives, goes_on, releases, gate, measure, measure_into, measure_returning, declared_call, operation, first_result}
 use Rattle.qir_meaning.specs.State.{Env, State, Stuck, bind, next, is_held, with_allocation, without, with_event, with_bit, with_record, bit_of}
 use Rattle.qir_meaning.specs.State as run
-use Rattle.qir_meaning.specs.code.Simulation.{Whole, Tick, tick_of}
-use Rattle.qir_meaning.specs.code.Steps.{Waiting}
+use Rattle.qir_meaning.specs.Runs.{Trapped}
+use Rattle.qir_meaning.specs.code.Simulation.{Whole, Tick, Off, tick_of}
+use Rattle.qir_meaning.specs.code.Steps.{Ended, Jam, Waiting}
 use Rattle.kept_items.specs.declared.item.Choice.TheVariants.{One}
 use Rattle.kept_items.specs.declared.item.Item.{Item}
 use Rattle.kept_items.specs.declared.item.Item.TheVariants.{Read, Equal}
@@ -50,7 +51,7 @@ use Rattle.static_steps.specs.Results as results
 use Rattle.static_steps.specs.Results.{both_bits, const_bit, equals, held_in, reads, releases_known}
 use Rattle.static_steps.specs.Settings.{Setting, bound, gives_dynamic, gives_known, goes, move_to, passed, silent}
 use Rattle.runs_follow_steps.specs.Describes.{Fits, IsNot, ResultInRange}
-use Rattle.runs_follow_steps.specs.Meets.{DidMeets, TurnMeets}
+use Rattle.runs_follow_steps.specs.Meets.{DidMeets, TrapsOrJams, TurnMeets, jams, traps}
 use Rattle.runs_follow_steps.proofs.Bound.{reached, bound-with, passed-with, gives-known, gives-fresh, whole}
 
 abbrev pub by_args : Option (List Arg) → (List Arg → run.Move) → run.Move
@@ -145,6 +146,64 @@ module _ (ds : List IntValue) (st : State) (held : List ℕ) (same : st.held ≡
               by-second None = refl
               by-second (Some as_) = refl
 
+-- an operation that is refused traps so, where no argument before the wrong one is of another type
+pub data Refused (st : State) (why : Cause) (mv : run.Move) : Type 0 where
+  trapped : mv ≡ run.Halt (run.Trap why) st → Refused st why mv
+  stuck : mv ≡ Stuck → Refused st why mv
+
+pub refused : {st : State} {mv : run.Move} (tick : run.Move → Tick) (why : Cause) → Refused st why mv
+    → tick (run.Halt (run.Trap why) st) ≡ Off (Ended (Trapped why) st) → tick Stuck ≡ Off Jam → TrapsOrJams (tick mv) why st
+refused tick why (trapped e) a b = traps (ap tick e ∙ a)
+refused tick why (stuck e) a b = jams (ap tick e ∙ b)
+
+module _ (ds : List IntValue) (st : State) (held : List ℕ) (same : st.held ≡ held) where
+  wrong-argument : (t : Ty) (a : Val) (go : Arg → run.Move) (why : Cause) → wrong_arg held t a ≡ Some why
+      → argument st t (valued ds a) go ≡ run.Halt (run.Trap why) st
+  wrong-argument ty.Qubit (Known (value.Alloc j)) go why h = by-held (held_in held j) refl h
+    where
+      halts : Cause → run.Move
+      halts c = run.Halt (run.Trap c) st
+
+      by-held : (b : Bool) → held_in held j ≡ b → (if b then None else Some cause.Released) ≡ Some why
+          → (if is_held st j then go (arg.Qubit (qubit.Alloc j)) else run.Halt (run.Trap cause.Released) st) ≡ run.Halt (run.Trap why) st
+      by-held true e h = cc
+      by-held false e h =
+          let q : cause.Released ≡ why = cc in
+          ap (λ b. if b then go (arg.Qubit (qubit.Alloc j)) else run.Halt (run.Trap cause.Released) st) (ap (λ hs. list_any (λ i. i == j) hs) same ∙ e)
+          ∙ ap (λ c. run.Halt (run.Trap c) st) q
+  wrong-argument ty.Res (Known value.One) go why h = let q : cause.ConstResult ≡ why = cc in ap (λ c. run.Halt (run.Trap c) st) q
+  wrong-argument ty.Res (Known value.Zero) go why h = let q : cause.ConstResult ≡ why = cc in ap (λ c. run.Halt (run.Trap c) st) q
+  wrong-argument t a go why h = cc
+
+  pub wrong-arguments : (ts : List Ty) (vs : List Val) (args : List (Ty × Val)) (go : List Arg → run.Move) (why : Cause)
+      → typed_args ts vs ≡ Some args → wrong_args held args ≡ Some why → Refused st why (arguments st ts (map (valued ds) vs) go)
+  wrong-arguments [] [] args go why e h = let s : [] ≡ args = cc in let k : wrong_args held [] ≡ Some why = subst (λ z. wrong_args held z ≡ Some why) (sym s) h in cc
+  wrong-arguments [] (v ∷ vs) args go why e h = cc
+  wrong-arguments (t ∷ ts) [] args go why e h = cc
+  wrong-arguments (t ∷ ts) (v ∷ vs) args go why e h = rest (typed_args ts vs) (λ as_ go' e' h'. wrong-arguments ts vs as_ go' why e' h') e
+    where
+      rest : (o : Option (List (Ty × Val)))
+          → ((as_ : List (Ty × Val)) (go' : List Arg → run.Move) → o ≡ Some as_ → wrong_args held as_ ≡ Some why → Refused st why (arguments st ts (map (valued ds) vs) go'))
+          → one_more_arg t v o ≡ Some args
+          → Refused st why (argument st t (valued ds v) (λ a. arguments st ts (map (valued ds) vs) (λ as_. go (a ∷ as_))))
+      rest None ih e = cc
+      rest (Some as_) ih e =
+          let s : ((t, v) ∷ as_) ≡ args = cc in
+          by-cause (wrong_arg held t v) refl (subst (λ z. wrong_args held z ≡ Some why) (sym s) h)
+        where
+          others : Arg → run.Move
+          others a = arguments st ts (map (valued ds) vs) (λ as_. go (a ∷ as_))
+
+          by-arg : (o : Option Arg) → wrong_args held as_ ≡ Some why → Refused st why (by_arg o others)
+          by-arg None k = stuck refl
+          by-arg (Some a) k = ih as_ (λ as_. go (a ∷ as_)) refl k
+
+          by-cause : (c : Option Cause) → wrong_arg held t v ≡ c → or_cause c (wrong_args held as_) ≡ Some why
+              → Refused st why (argument st t (valued ds v) (λ a. arguments st ts (map (valued ds) vs) (λ as_. go (a ∷ as_))))
+          by-cause (Some c) w k = let q : c ≡ why = cc in trapped (wrong-argument t v others why (w ∙ ap Some q))
+          by-cause None w k =
+              subst (Refused st why) (sym (argument-is ds st held same t v others w)) (by-arg (arg_of t (valued ds v)) k)
+
 -- an operation is a measurement where it has a result among its arguments
 abbrev pub AgreeOn : Bool → Option ResultRef → Type 0
 AgreeOn true None = ⊥
@@ -224,13 +283,15 @@ module _ (s : Setting) (ds : List IntValue) (env : Env) (us : List Waiting) (st 
     module _ (none : x ≡ None) where
       -- a release
       releases-meets : (a : Value) → Meets (releases here env x st a) (releases_known s a)
-      releases-meets (value.Id i) = tt
+      releases-meets (value.Id i) = traps refl
       releases-meets (value.Alloc j) = by-held (held_in s.w.held j) refl
         where
           by-held : (b : Bool) → held_in s.w.held j ≡ b
               → Meets (if is_held st j then goes_on here env x st (without st j) else run.Halt (run.Trap cause.Released) st)
               (if b then goes s (record (passed s) { held = results.without s.w.held j }) else Bad (kind.Traps cause.Released))
-          by-held false e = tt
+          by-held false e =
+              let k : is_held st j ≡ false = ap (λ h. list_any (λ i. i == j) h) fits.held ∙ e in
+              traps (ap (λ b. tick_of v (if b then goes_on here env x st (without st j) else run.Halt (run.Trap cause.Released) st)) k)
           by-held true e =
               let u : Work = record (passed s) { held = results.without s.w.held j } in
               let k : is_held st j ≡ true = ap (λ h. list_any (λ i. i == j) h) fits.held ∙ e in (
@@ -300,7 +361,7 @@ module _ (s : Setting) (ds : List IntValue) (env : Env) (us : List Waiting) (st 
           by-phase (Some ph) = h ph
 
           by-cause : (c : Option Cause) → wrong_args s.w.held args ≡ c → Meets (arguments st ts (map (valued ds) vs) go) (issues s c irreversible name args)
-          by-cause (Some why) k = tt
+          by-cause (Some why) k = refused (tick_of v) why (wrong-arguments ds st s.w.held fits.held ts vs args go why e k) refl refl
           by-cause None k =
               subst (λ mv. Meets mv (issues s None irreversible name args)) (sym (arguments-are ds st s.w.held fits.held ts vs args go e k)) (by-phase (phase_after s irreversible))
 
@@ -381,7 +442,8 @@ module _ (s : Setting) (ds : List IntValue) (env : Env) (us : List Waiting) (st 
             (return-issued ph (args_of ds st args) a)
 
         by-cause : (c : Option Cause) → wrong_args s.w.held args ≡ c → Meets (arguments st ts (map (valued ds) vs) (measure_returning here env x st)) (returning_on s x c args)
-        by-cause (Some why) k = tt
+        by-cause (Some why) k =
+            refused (tick_of v) why (wrong-arguments ds st s.w.held fits.held ts vs args (measure_returning here env x st) why e k) refl refl
         by-cause None k =
             subst (λ mv. Meets mv (returning_on s x None args)) (sym (arguments-are ds st s.w.held fits.held ts vs args (measure_returning here env x st) e k)) (by-phase (phase_after s true))
 

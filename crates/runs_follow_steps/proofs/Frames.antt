@@ -63,15 +63,15 @@ fit-value ds (Dynamic i) h = (h, refl)
 -- operands
 
 abbrev pub ValsFit : List IntValue → Option (List Val) → Option (List Value) → Type 0
-ValsFit ds None p = ⊤
+ValsFit ds None p = p ≡ None
 ValsFit ds (Some vs) p = (p ≡ Some (map (valued ds) vs)) × AllIn ds vs
 
 abbrev pub ValFits : List IntValue → Option Val → Option Value → Type 0
-ValFits ds None p = ⊤
+ValFits ds None p = p ≡ None
 ValFits ds (Some a) p = (p ≡ Some (valued ds a)) × In ds a
 
 pub fit-known : (ds : List IntValue) (a : Option Val) (o : Option Value) → Fit ds a o → ValFits ds a o
-fit-known ds None o h = tt
+fit-known ds None o h = h
 fit-known ds (Some (Known v)) o h = (h, tt)
 fit-known ds (Some (Dynamic i)) o h = (h.1, h.0)
 
@@ -85,8 +85,8 @@ module _ (live : Point → LocalId → Bool) (m : Module) (ds : List IntValue) (
   operands-fit (a ∷ rest) l = join (val_of f.names a) (value_of env a) (vals_of f.names rest) (values_of env rest) (fit-known ds (val_of f.names a) (value_of env a) (operand-fits a l.0)) (operands-fit rest l.1)
     where
       join : (a : Option Val) (o : Option Value) (as_ : Option (List Val)) (os : Option (List Value)) → ValFits ds a o → ValsFit ds as_ os → ValsFit ds (one_val a as_) (one_more o os)
-      join None o as_ os h k = tt
-      join (Some a) o None os h k = tt
+      join None o as_ os h k = ap (λ o. one_more o os) h
+      join (Some a) o None os h k = ap (λ o. one_more o os) h.0 ∙ ap (one_more (Some (valued ds a))) k
       join (Some a) o (Some as_) os h k = (ap (λ o. one_more o os) h.0 ∙ ap (one_more (Some (valued ds a))) k.0, (h.1, k.1))
 
 -- a name that gets a value

@@ -37,10 +37,10 @@ use Rattle.static_steps.specs.Integers.{binary_known, binary_turn, convert_known
 use Rattle.static_steps.specs.Settings.{Setting, bound, gives_known, goes, kept_if}
 use Rattle.static_steps.specs.Values.{same_known, same_width}
 use Rattle.runs_follow_steps.specs.Describes.{Fits, IsNot, ResultInRange}
-use Rattle.runs_follow_steps.specs.Meets.{DidMeets, TurnMeets}
+use Rattle.runs_follow_steps.specs.Meets.{DidMeets, TurnMeets, traps}
 use Rattle.runs_follow_steps.proofs.Bound.{gives-fresh, gives-known, gives-val, kept-if, kept-moves, whole}
 use Rattle.runs_follow_steps.proofs.Frames.{In}
-use Rattle.runs_follow_steps.proofs.Same.{same-values}
+use Rattle.static_steps.proofs.SameValues.{same-values}
 
 module _ (s : Setting) (ds : List IntValue) (env : Env) (us : List Waiting) (st : State) (fits : Fits s.m s.live ds s.w env us st) (counted : s.fresh.0 ≡ length ds)
     (x : Option LocalId) (passes : (y : LocalId) → s.live (next s.w.top.at) y ≡ true → IsNot x y → s.live s.w.top.at y ≡ true) (range : ResultInRange s.m s.w.top.at.func x) where
@@ -76,7 +76,7 @@ module _ (s : Setting) (ds : List IntValue) (env : Env) (us : List Waiting) (st 
 
     folded-meets : (r : Result IntValue Cause) → Meets (computes s.m here env st x r) (folded s x r)
     folded-meets (Ok i) = known-value (value.Int i)
-    folded-meets (Err why) = tt
+    folded-meets (Err why) = traps refl
 
     computed-meets : (r : Result IntValue Cause) → Kept (computes s.m here env st x r) (computed ds st r)
     computed-meets (Ok i) = fresh-value i

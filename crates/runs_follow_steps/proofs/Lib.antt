@@ -9,6 +9,5 @@ pub mod Live
 pub mod Looks
 pub mod Packing
 pub mod Ranges
-pub mod Same
 pub mod Starts
 pub mod Steps

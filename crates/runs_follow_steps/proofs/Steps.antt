@@ -43,7 +43,7 @@ use Rattle.static_steps.specs.Settings.{Setting}
 use Rattle.static_steps.specs.Steps.{inst_turn, setting_of, static_step, step_turn, term_turn, with_val, with_vals}
 use Rattle.static_steps.specs.Values.{val_of, vals_of}
 use Rattle.runs_follow_steps.specs.Describes.{Describes, Fits, IsNot, ResultInRange}
-use Rattle.runs_follow_steps.specs.Meets.{TurnMeets}
+use Rattle.runs_follow_steps.specs.Meets.{TurnMeets, traps}
 use Rattle.runs_follow_steps.proofs.Bound.{whole}
 use Rattle.runs_follow_steps.proofs.Calls.{call-here, enters-meets, back-meets, back-void}
 use Rattle.runs_follow_steps.proofs.Declared.{class-meets}
@@ -100,7 +100,7 @@ module _ (s : Setting) (flows : Flows s.m s.live) (ds : List IntValue) (env : En
     inst-meets = by-vals (vals_of s.w.top.names (operands_of i.what)) (values_of env (operands_of i.what)) (operands-fit s.live s.m ds s.w.top env fits.top (operands_of i.what) (flows.inst_reads here i stands))
       where
         by-vals : (o : Option (List Val)) (p : Option (List Value)) → ValsFit ds o p → Meets (with_values p st (performs s.m here env st x i.what)) (with_vals o (inst_turn s x i.what))
-        by-vals None p h = tt
+        by-vals None p h = traps (ap (λ q. tick_of v (with_values q st (performs s.m here env st x i.what))) h)
         by-vals (Some vs) p h = subst (λ q. Meets (with_values q st (performs s.m here env st x i.what)) (inst_turn s x i.what vs)) (sym h.0) (kind-meets i.what vs h.1)
 
   -- of the operand of a terminator
@@ -108,7 +108,7 @@ module _ (s : Setting) (flows : Flows s.m s.live) (ds : List IntValue) (env : En
   one-val a h go mv k = by-val (val_of s.w.top.names a) (value_of env a) h
     where
       by-val : (o : Option Val) (p : Option Value) → ValFits ds o p → Meets (with_value p st mv) (with_val o go)
-      by-val None p h = tt
+      by-val None p h = traps (ap (λ q. tick_of v (with_value q st mv)) h)
       by-val (Some b) p h = subst (λ q. Meets (with_value q st mv) (go b)) (sym h.0) (k b h.1)
 
   operand-val : (a : Operand) → LiveOperand s.live here a → ValFits ds (val_of s.w.top.names a) (value_of env a)

@@ -1,3 +1,4 @@
+pub mod SameValues
 mod WorkedCalls
 mod WorkedIntegers
 pub mod WorkedModules

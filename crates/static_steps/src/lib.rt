@@ -4,6 +4,7 @@
 mod config;
 pub mod laws;
 mod phase;
+mod readings;
 mod turn;
 mod work;
 

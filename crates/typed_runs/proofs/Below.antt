@@ -1,8 +1,8 @@
 -- Fixed numbers below the required ones, in what a run did and asks for.
-use Rattle.std.proofs.Common.{◌≡◌, ℕ, Some, List, [], ◌∷◌, ◌++◌, flat_map, cond, count_by, Option, refl, ap, arith}
+use Rattle.std.proofs.Common.{◌≡◌, ℕ, Some, List, [], ◌∷◌, ◌++◌, flat_map, cond, count_by, Option, refl, ap, arith, ◌+◌, ◌<◌, ◌==◌, not}
 use Rattle.std.proofs.lemmas.Grind.{flat_map-append}
 use Rattle.std.proofs.lemmas.List.Sums.{sum_by-cons}
-use Rattle.std.proofs.lemmas.List.Elements.{All-append, All-cons, All-nil, All-same}
+use Rattle.std.proofs.lemmas.List.Elements.{All-append, All-cons, All-filter, All-head, All-nil, All-same, All-tail}
 use Rattle.std.specs.List.{All}
 use Rattle.std.specs.Prelude.{⊤}
 use Rattle.backend_api.specs.declared.operation.Answer.{Answer}
@@ -18,7 +18,7 @@ use Rattle.ir_values.specs.declared.ty.Ty.TheVariants as ty
 use Rattle.ir_values.specs.ClassTypes.{is_result_type}
 use Rattle.qir_meaning.specs.Apart.{QubitBelow, ResultBelow}
 use Rattle.qir_meaning.specs.Effects.{first_result}
-use Rattle.qir_meaning.specs.State.{State, Stop, Trap, Ask, with_event, with_record}
+use Rattle.qir_meaning.specs.State.{State, Stop, Trap, Ask, with_event, with_record, with_allocation, without}
 use Rattle.typed_runs.specs.Fits.{LabelIn, StateFits}
 use Rattle.ir_module.specs.declared.tree.Module.{Module}
 use Rattle.ir_values.specs.declared.ids.GlobalId.{GlobalId}
@@ -104,13 +104,27 @@ module _ (k r : ℕ) where
 
 module _ (m : Module) (k r : ℕ) where
   -- what was done is the same
-  pub same-done : {st st' : State} → StateFits m k r st → st'.events ≡ st.events → st'.records ≡ st.records → StateFits m k r st'
-  same-done {st} {st'} h e f =
+  pub same-done : {st st' : State} → StateFits m k r st → st'.events ≡ st.events → st'.records ≡ st.records → All (λ (j : ℕ). j < st'.allocated) st'.held → StateFits m k r st'
+  same-done {st} {st'} h e f g =
       record {
         qubits = All-same (QubitBelow k) (qubits_in st'.events) (qubits_in st.events) (ap qubits_in e) h.qubits;
         results = All-same (ResultBelow r) (results_in st'.events) (results_in st.events) (ap results_in e) h.results;
         labels = All-same (λ (x : Record). LabelIn m x.label) st'.records st.records f h.labels;
+        held = g;
       }
+
+  more-held : (a : ℕ) (js : List ℕ) → All (λ (j : ℕ). j < a) js → All (λ (j : ℕ). j < a + 1) js
+  more-held a [] h = All-nil (λ (j : ℕ). j < a + 1)
+  more-held a (j ∷ js) h = let lt = All-head (λ (j : ℕ). j < a) j js h in All-cons (λ (j : ℕ). j < a + 1) j js (omega (arith, lt)) (more-held a js (All-tail (λ (j : ℕ). j < a) j js h))
+
+  pub allocation-fits : (st : State) → StateFits m k r st → StateFits m k r (with_allocation st)
+  allocation-fits st h =
+      same-done h refl refl
+      (All-append (λ (j : ℕ). j < st.allocated + 1) st.held (st.allocated ∷ []) (more-held st.allocated st.held h.held)
+      (All-cons (λ (j : ℕ). j < st.allocated + 1) st.allocated [] (omega arith) (All-nil (λ (j : ℕ). j < st.allocated + 1))))
+
+  pub release-fits : (st : State) (i : ℕ) → StateFits m k r st → StateFits m k r (without st i)
+  release-fits st i h = same-done h refl refl (All-filter (λ (x : ℕ). not (x == i)) (λ (j : ℕ). j < st.allocated) st.held h.held)
 
   pub event-fits : (st : State) (op : Op) (a : Answer) (rest : List Answer) → StateFits m k r st → OpBelow k r op → StateFits m k r (with_event st op a rest)
   event-fits st op a rest h o =
@@ -119,6 +133,7 @@ module _ (m : Module) (k r : ℕ) where
         qubits = All-same (QubitBelow k) _ _ (flat_map-append (λ (e : Event). qubits_of e.op) st.events (e ∷ [])) (All-append (QubitBelow k) (qubits_in st.events) (qubits_of op ++ []) h.qubits (All-append (QubitBelow k) (qubits_of op) [] o.qubits (All-nil (QubitBelow k))));
         results = All-same (ResultBelow r) _ _ (flat_map-append (λ (e : Event). results_of e.op) st.events (e ∷ [])) (All-append (ResultBelow r) (results_in st.events) (results_of op ++ []) h.results (All-append (ResultBelow r) (results_of op) [] o.results (All-nil (ResultBelow r))));
         labels = h.labels;
+        held = h.held;
       }
 
   pub record-fits : (st : State) (what : Shown) (label : Option GlobalId) → StateFits m k r st → LabelIn m label → StateFits m k r (with_record st (record { shown = what; label = label }))
@@ -128,4 +143,5 @@ module _ (m : Module) (k r : ℕ) where
         qubits = h.qubits;
         results = h.results;
         labels = All-append (λ (x : Record). LabelIn m x.label) st.records (x ∷ []) h.labels (All-cons (λ (x : Record). LabelIn m x.label) x [] l (All-nil (λ (x : Record). LabelIn m x.label)));
+        held = h.held;
       }

@@ -12,9 +12,9 @@ use Rattle.ir_module.specs.declared.tree.Block.{Block}
 use Rattle.ir_module.specs.declared.tree.Function.{Function}
 use Rattle.ir_module.specs.declared.tree.Module.{Module}
 use Rattle.ir_module.specs.Classes.{parameter_types}
-use Rattle.ir_module.specs.Numbered.{Numbered, step_in_range, calls_whole, has_block, operand_in_range}
+use Rattle.ir_module.specs.Numbered.{Numbered, step_in_range, calls_whole, has_block, operand_in_range, is_written}
 use Rattle.ir_module.specs.Edges.{edges}
-use Rattle.ir_module.specs.Operands.{term_operands}
+use Rattle.ir_module.specs.Operands.{term_operands, step_operands}
 use Rattle.ir_module.specs.Steps.{TermAt, step_of_point}
 use Rattle.ir_module.specs.Tree.{blocks_of}
 use Rattle.ir_module.specs.declared.tree.Term.{Term}
@@ -60,6 +60,10 @@ module _ (m : Module) (numbered : Numbered m) where
     -- the step at a point has its numbers in range, and a call there is written with whole types
     pub range-at : step_in_range m f (step_of_point f p) ≡ true
     range-at = let range = and_parts _ _ numbered.in_range in module-passes (step_in_range m) m p f range.1 refl e
+
+    -- no operand there is a qubit or result that only a run gives
+    pub written-at : list_all is_written (step_operands (step_of_point f p)) ≡ true
+    written-at = module-passes (λ f s. list_all is_written (step_operands s)) m p f numbered.written refl e
 
     pub whole-at : calls_whole (step_of_point f p) ≡ true
     whole-at = let whole = and_parts _ _ numbered.whole in module-passes (λ f s. calls_whole s) m p f whole.1 refl e

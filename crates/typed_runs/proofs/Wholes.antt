@@ -1,5 +1,5 @@
 -- An admitted module has its runs, which fit.
-use Rattle.std.proofs.Common.{◌≡◌, ◌⊎◌, inl, inr, ⊎_elim, ℕ, suc, ◌+◌, ◌==◌, Bool, true, false, ◌&&◌, ◌||◌, not, cond, is_some, Option, None, Some, List, [], ◌∷◌, map, take, slice_get, refl, sym, ap, ◌∙◌, subst, arith}
+use Rattle.std.proofs.Common.{◌≡◌, ◌⊎◌, inl, inr, ⊎_elim, ℕ, suc, ◌+◌, ◌==◌, Bool, true, false, ◌&&◌, ◌||◌, not, cond, is_some, Option, None, Some, List, [], ◌∷◌, map, take, slice_get, refl, sym, ap, ◌∙◌, subst, arith, ◌<◌}
 use Rattle.std.proofs.lemmas.Bool.{and_parts}
 use Rattle.std.proofs.lemmas.List.Elements.{All-append, All-nil, All-same}
 use Rattle.std.specs.Cmp.{unsigned_Decides}
@@ -40,12 +40,12 @@ use Rattle.type_check.specs.Typing.{same_type, local_type, is_of_type}
 use Rattle.type_check.proofs.Equal.{same_type-is, is_void-is}
 use Rattle.type_check.proofs.Facts.{keeps}
 use Rattle.typed_runs.specs.Fits.{IsCode, LabelIn, LabelsIn, FrameFits, WaitFits, WaitsFit, StateFits, WholeFits, EndFits, TickFits, FitsAlways}
-use Rattle.typed_runs.specs.Values.{IsOf, EnvOf, AllOf, Gives}
+use Rattle.typed_runs.specs.Values.{Bounds, bounds_at, IsOf, EnvOf, AllOf, Gives}
 use Rattle.typed_runs.proofs.Below.{StopBelow}
 use Rattle.typed_runs.proofs.Moves.{Good}
 use Rattle.typed_runs.proofs.Numbers.{function-facts, some-block}
 use Rattle.typed_runs.proofs.Steps.{first-block, move-good}
-use Rattle.typed_runs.proofs.Values.{env-set, frame-of, local-has}
+use Rattle.typed_runs.proofs.Values.{waits-later, env-set, frame-of, local-has}
 
 -- ---- the entry
 
@@ -91,21 +91,22 @@ entry-type n f h =
 
 -- ---- frames that wait
 
-module _ (m : Module) (k r : ℕ) where
-  bound : (f : Function) (env : Env) (y : Option LocalId) (u : Ty) (v : Value) → result_agrees f y u ≡ true → EnvOf m k r f.locals env → IsOf m k r u v → EnvOf m k r f.locals (bind env y v)
+module _ (m : Module) (bs : Bounds) where
+  bound : (f : Function) (env : Env) (y : Option LocalId) (u : Ty) (v : Value) → result_agrees f y u ≡ true → EnvOf m bs f.locals env → IsOf m bs u v → EnvOf m bs f.locals (bind env y v)
   bound f env None u v e h i = h
-  bound f env (Some y) u v e h i = env-set m k r f.locals env y.0 u (Some v) h (local-has m k r (local_type f y) u (and_parts (is_of_type (local_type f y) u) (not (is_void u)) e).0) i
+  bound f env (Some y) u v e h i = env-set m bs f.locals env y.0 u (Some v) h (local-has m bs (local_type f y) u (and_parts (is_of_type (local_type f y) u) (not (is_void u)) e).0) i
 
-  goes-on : (w : Waiting) (t : Ty) (fits : FrameFits m k r w.at w.env t) (env : Env) → EnvOf m k r fits.func.locals env → FrameFits m k r w.at env t
+  goes-on : (w : Waiting) (t : Ty) (fits : FrameFits m bs w.at w.env t) (env : Env) → EnvOf m bs fits.func.locals env → FrameFits m bs w.at env t
   goes-on w t fits env h = record { func = fits.func; is = fits.is; block = fits.block; here = fits.here; from = fits.from; to = fits.to; values = h; returns = fits.returns }
 
   -- the frame that waits goes on with the value that comes back
-  resumes : (w : Waiting) (u t : Ty) (v : Option Value) → WaitFits m k r u w t → Gives m k r u v → FrameFits m k r w.at (bind_result w.env w.result v) t
+  resumes : (w : Waiting) (u t : Ty) (v : Option Value) → WaitFits m bs u w t → Gives m bs u v → FrameFits m bs w.at (bind_result w.env w.result v) t
   resumes w u t None h g = h.fits
   resumes w u t (Some v) h g = goes-on w t h.fits (bind w.env w.result v) (bound h.fits.func w.env w.result u v h.named h.fits.values g)
 
+module _ (m : Module) (k r : ℕ) where
   none-done : (a : List Answer) → StateFits m k r (start a)
-  none-done a = record { qubits = All-nil (QubitBelow k); results = All-nil (ResultBelow r); labels = All-nil (λ (x : Record). LabelIn m x.label) }
+  none-done a = record { qubits = All-nil (QubitBelow k); results = All-nil (ResultBelow r); labels = All-nil (λ (x : Record). LabelIn m x.label); held = All-nil (λ (j : ℕ). j < 0) }
 
   -- an end that names nothing
   names-none : (e : RunEnd) → of_end qubits_of e ≡ [] → of_end results_of e ≡ [] → EndFits m k r e
@@ -114,29 +115,29 @@ module _ (m : Module) (k r : ℕ) where
   abbrev EndsFit : RunEnd → State → Type 0
   EndsFit e st = StateFits m k r st × EndFits m k r e
 
-  code-int : (v : Value) (st : State) → IsOf m k r (ty.Int W64) v → StateFits m k r st → TickFits m k r (Off (returned (Some v) st))
+  code-int : (v : Value) (st : State) → IsOf m (bounds_at k r st) (ty.Int W64) v → StateFits m k r st → TickFits m k r (Off (returned (Some v) st))
   code-int (value.Int i) st h b = (b, names-none (Returned (signed i)) refl refl)
   code-int v st h b = absurd h
 
-  no-void : (v : Value) → IsOf m k r ty.Void v → ⊥
-  no-void v h = h
+  no-void : (st : State) (v : Value) → IsOf m (bounds_at k r st) ty.Void v → ⊥
+  no-void st v h = h
 
-  returned-fits : (t : Ty) (v : Option Value) (st : State) → IsCode t → Gives m k r t v → StateFits m k r st → TickFits m k r (Off (returned v st))
+  returned-fits : (t : Ty) (v : Option Value) (st : State) → IsCode t → Gives m (bounds_at k r st) t v → StateFits m k r st → TickFits m k r (Off (returned v st))
   returned-fits t None st c h b = (b, names-none (Returned (pos 0)) refl refl)
-  returned-fits t (Some v) st (inl e) h b = code-int v st (subst (λ u. IsOf m k r u v) e h) b
-  returned-fits t (Some v) st (inr e) h b = absurd (no-void v (subst (λ u. IsOf m k r u v) e h))
+  returned-fits t (Some v) st (inl e) h b = code-int v st (subst (λ u. IsOf m (bounds_at k r st) u v) e h) b
+  returned-fits t (Some v) st (inr e) h b = absurd (no-void st v (subst (λ u. IsOf m (bounds_at k r st) u v) e h))
 
-  back-fits : (ws : List Waiting) (t : Ty) (v : Option Value) (st : State) → WaitsFit m k r t ws → Gives m k r t v → StateFits m k r st → TickFits m k r (gives_back ws v st)
+  back-fits : (ws : List Waiting) (t : Ty) (v : Option Value) (st : State) → WaitsFit m (bounds_at k r st) t ws → Gives m (bounds_at k r st) t v → StateFits m k r st → TickFits m k r (gives_back ws v st)
   back-fits [] t v st w h b = returned-fits t v st w h b
-  back-fits (u ∷ us) t v st w h b = record { returns = w.0; frame = resumes u t w.0 v w.1 h; waits = w.2; state = b }
+  back-fits (u ∷ us) t v st w h b = record { returns = w.0; frame = resumes m (bounds_at k r st) u t w.0 v w.1 h; waits = w.2; state = b }
 
   stop-fits : (stop : Stop) → StopBelow k r stop → EndFits m k r (end_of stop)
   stop-fits (Trap c) h = names-none (Trapped c) refl refl
   stop-fits (Ask op) h = record { qubits = h.qubits; results = h.results }
 
-  move-fits : (w : Whole) (s : WholeFits m k r w) (mv : Move) → Good m k r w.at w.env s.returns mv → TickFits m k r (tick_of w mv)
-  move-fits w s (Next p env st) g = record { returns = s.returns; frame = g.0; waits = s.waits; state = g.1 }
-  move-fits w s (Enter q env x st) g = record { returns = g.0; frame = g.1; waits = (s.returns, g.2, s.waits); state = g.3 }
+  move-fits : (w : Whole) (s : WholeFits m k r w) (mv : Move) → Good m k r w.at w.env s.returns w.state mv → TickFits m k r (tick_of w mv)
+  move-fits w s (Next p env st) g = record { returns = s.returns; frame = g.1; waits = waits-later m k r w.state st g.0 s.returns w.waits s.waits; state = g.2 }
+  move-fits w s (Enter q env x st) g = record { returns = g.1; frame = g.2; waits = (s.returns, g.3, waits-later m k r w.state st g.0 s.returns w.waits s.waits); state = g.4 }
   move-fits w s (Back v) g = back-fits w.waits s.returns v w.state s.waits g s.state
   move-fits w s (Halt stop st) g = (g.0, stop-fits stop g.1)
   move-fits w s Stuck g = g
@@ -215,7 +216,7 @@ module _ (m : Module) (limit : ℕ) (numbered : Numbered m) (typed : Typed m lim
           here = c.1;
           from = omega (arith, c.2);
           to = omega arith;
-          values = frame-of m K R e.function.params e.function.locals [] n.params (subst (λ q. AllOf m K R (map (λ l. l.1) (take q e.function.locals)) []) (sym type.0) tt);
+          values = frame-of m (bounds_at K R (start a)) e.function.params e.function.locals [] n.params (subst (λ q. AllOf m (bounds_at K R (start a)) (map (λ l. l.1) (take q e.function.locals)) []) (sym type.0) tt);
           returns = refl;
         };
         waits = type.1;

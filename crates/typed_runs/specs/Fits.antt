@@ -20,7 +20,7 @@ use Rattle.qir_meaning.specs.State.{Env, State}
 use Rattle.qir_meaning.specs.code.Simulation.{Whole, Tick, On, Off, tick, whole_start}
 use Rattle.qir_meaning.specs.code.Steps.{Waiting, Ended, Jam}
 use Rattle.type_check.specs.Rules.{result_agrees}
-use Rattle.typed_runs.specs.Values.{EnvOf}
+use Rattle.typed_runs.specs.Values.{Bounds, bounds_at, EnvOf}
 
 -- the label of a record is a constant of the module
 abbrev pub LabelIn : Module → Option GlobalId → Type 0
@@ -34,7 +34,7 @@ LabelsIn m rs = All (λ (x : Record). LabelIn m x.label) rs
 abbrev pub IsCode : Ty → Type 0
 IsCode t = (t ≡ ty.Int W64) ⊎ (t ≡ ty.Void)
 
-module _ (m : Module) (k r : ℕ) where
+module _ (m : Module) (b : Bounds) where
   -- a frame at an instruction or a terminator of a function that returns the type, with values of their types
   pub record FrameFits (p : Point) (env : Env) (t : Ty) : Type 0 where
     pub func : Function
@@ -43,7 +43,7 @@ module _ (m : Module) (k r : ℕ) where
     pub here : block_at func p.block ≡ Some block
     pub from : length block.phis ≤ p.index
     pub to : p.index ≤ length block.phis + length block.insts
-    pub values : EnvOf m k r func.locals env
+    pub values : EnvOf m b func.locals env
     pub returns : func.ret ≡ t
 
   -- a frame of a function that returns t waits for a call that returns u: the name that takes the call's value has that type
@@ -56,17 +56,19 @@ module _ (m : Module) (k r : ℕ) where
   WaitsFit u [] = IsCode u
   WaitsFit u (w ∷ ws) = (t : Ty) × WaitFits u w t × WaitsFit t ws
 
-  -- what was done names fixed numbers below the required ones alone, and constants of the module
+module _ (m : Module) (k r : ℕ) where
+  -- what was done names fixed numbers below the required ones alone, and constants of the module, and what is held was allocated
   pub record StateFits (st : State) : Type 0 where
     pub qubits : All (QubitBelow k) (qubits_in st.events)
     pub results : All (ResultBelow r) (results_in st.events)
     pub labels : LabelsIn m st.records
+    pub held : All (λ (j : ℕ). j < st.allocated) st.held
 
   -- all that a run has between two instructions
   pub record WholeFits (w : Whole) : Type 0 where
     pub returns : Ty
-    pub frame : FrameFits w.at w.env returns
-    pub waits : WaitsFit returns w.waits
+    pub frame : FrameFits m (bounds_at k r w.state) w.at w.env returns
+    pub waits : WaitsFit m (bounds_at k r w.state) returns w.waits
     pub state : StateFits w.state
 
   -- what a run asked for in vain, if it did, names fixed numbers below the required ones alone

@@ -8,20 +8,30 @@ use Rattle.ir_values.specs.declared.value.Value.TheVariants as value
 use Rattle.ir_module.specs.declared.tree.Function.{Function}
 use Rattle.ir_module.specs.declared.tree.Module.{Module}
 use Rattle.ir_module.specs.Classes.{type_words}
-use Rattle.qir_meaning.specs.State.{Env}
+use Rattle.qir_meaning.specs.State.{Env, State}
 use Rattle.type_check.specs.Rules.{is_known}
 
--- in runs of the module m, where fixed numbers of qubits are below k and those of results below r
-module _ (m : Module) (k r : ℕ) where
-  -- A value of the type. A fixed number is below the required one, a label is in range, and a function value is that of a
+-- what the numbers of handles are below
+pub record Bounds : Type 0 where
+  pub qubits : ℕ  -- those of fixed qubits: the required number
+  pub results : ℕ  -- those of fixed results
+  pub allocated : ℕ  -- those of allocations: how many qubits were allocated
+  pub measured : ℕ  -- those of returned results
+
+-- where k qubits and r results are required, and a run has come to this state
+abbrev pub bounds_at : ℕ → ℕ → State → Bounds
+bounds_at k r st = record { qubits = k; results = r; allocated = st.allocated; measured = st.measured }
+
+module _ (m : Module) (b : Bounds) where
+  -- A value of the type. A number of a handle is below its bound, a label is in range, and a function value is that of a
   -- function of the type, which has a body or a class.
   abbrev pub IsOf : Ty → Value → Type 0
   IsOf (ty.Int w) (value.Int i) = i.width ≡ w
   IsOf ty.Double (value.Double d) = ⊤
-  IsOf ty.Qubit (value.Id n) = n < k
-  IsOf ty.Qubit (value.Alloc n) = ⊤
-  IsOf ty.Res (value.Id n) = n < r
-  IsOf ty.Res (value.Measured n) = ⊤
+  IsOf ty.Qubit (value.Id n) = n < b.qubits
+  IsOf ty.Qubit (value.Alloc n) = n < b.allocated
+  IsOf ty.Res (value.Id n) = n < b.results
+  IsOf ty.Res (value.Measured n) = n < b.measured
   IsOf ty.Res value.One = ⊤
   IsOf ty.Res value.Zero = ⊤
   IsOf ty.Text (value.Label g) = g.0 < length m.globals

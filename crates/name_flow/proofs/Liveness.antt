@@ -1,7 +1,6 @@
 -- The tables of a flow tell the names that are live by walks.
-use Rattle.std.proofs.Common.{◌≡◌, zero, suc, ◌⊎◌, ◌↔◌, Result, Ok, Err, IfOk, ℕ, ◌+◌, ◌-◌, ◌<◌, ◌≤◌, Bool, true, false, ltb, leb, List, [], ◌∷◌, ◌++◌, Option, Some, None, refl, sym, ap, ◌∙◌, arith, inl, inr, subst, Contains, slice_get, true≢false}
+use Rattle.std.proofs.Common.{◌≡◌, zero, suc, ◌⊎◌, ◌↔◌, Result, Ok, Err, IfOk, ℕ, ◌+◌, ◌-◌, ◌<◌, ◌≤◌, Bool, true, false, ltb, leb, List, [], ◌∷◌, ◌++◌, map, if◌then◌else◌, Option, Some, None, refl, sym, ap, ◌∙◌, arith, inl, inr, subst, Contains, slice_get, true≢false}
 use Rattle.std.proofs.lemmas.Bool.Decides.{nat_tests}
-use Rattle.std.proofs.lemmas.List.Elements.{Contains-append_left, Contains-append_right, Contains-append_cases}
 use Rattle.std.proofs.lemmas.List.Sorted.{Contains-permutation, IsPermutation-sym}
 use Rattle.ir_values.specs.declared.ids.BlockId.{BlockId}
 use Rattle.ir_values.specs.declared.ids.FuncId.{FuncId}
@@ -11,49 +10,55 @@ use Rattle.ir_module.specs.declared.tree.Function.{Function}
 use Rattle.ir_module.specs.Edges.{edges}
 use Rattle.ir_module.specs.Steps.{Step, TermAt, NoStep, step_at, step_of_point}
 use Rattle.name_flow.specs.declared.flow.Flow.{Flow}
-use Rattle.name_flow.specs.code.Built.{AreEnds, IsBuiltFrom}
-use Rattle.name_flow.specs.code.Marks.{gather, block_used, block_defined, block_edges, block_phis_used, end_index, ends_used}
-use Rattle.name_flow.specs.code.Spread.{Pair, IsWanted, used_here, used_later, IsWantedAfter}
-use Rattle.name_flow.specs.Tables.{live, IsFlowOf}
+use Rattle.name_flow.specs.code.Built.{IsBuiltFrom}
+use Rattle.name_flow.specs.code.Marks.{gather, block_used, block_defined, block_edges, block_phis_used, end_index}
+use Rattle.name_flow.specs.code.Runs.{in_run, AreRuns}
+use Rattle.name_flow.specs.code.Spread.{IsWanted, used_here, used_later, IsWantedAfter}
+use Rattle.name_flow.specs.Tables.{or_else, end_use, live, IsFlowOf}
 use Rattle.name_flow.specs.code.Triples.{Triple, next, is_first, Sorts}
 use Rattle.ir_module.specs.Operands.{step_defines}
 use Rattle.name_flow.specs.Uses.{step_reads}
 use Rattle.name_flow.specs.Walks.{successors, first_point, IsWalk, ReadsFirst, IsLive}
-use Rattle.name_flow.proofs.Marked.{name, block_id, At, at_phi, at_inst, at_term, at_none, at, get-below, StepHas, defined-from, defined-has, edge-from, edge-holds, used-from, used-has, EndMark, ends-from, ends-has, some-block, step-term-at}
+use Rattle.name_flow.proofs.Marked.{name, block_id, At, at_phi, at_inst, at_term, at_none, at, get-below, StepHas, defined-from, defined-has, edge-from, edge-holds, used-from, used-has, some-block, step-term-at}
 use Rattle.name_flow.proofs.Members.{none, here, cases, Contains-map, FromMap, map-cases}
-use Rattle.name_flow.proofs.Order.{NextIs, next-is}
+use Rattle.name_flow.proofs.Order.{IsNext, NextIs, next-is}
 
 -- the first use from i on, with no definition between
-pub record Reaches (used defined : List Triple) (b x i : ℕ) : Type 0 where
+pub record Reaches (uses : ℕ → Type 0) (defined : List Triple) (b x i : ℕ) : Type 0 where
   pub index : ℕ
   pub from : i ≤ index
-  pub use_there : Contains used (b, x, index)
+  pub use_there : uses index
   pub clear : (k : ℕ) → i ≤ k → k < index → Contains defined (b, x, k) → ⊥
 
-module _ (used defined : List Triple) (b x i : ℕ) (n : Option ℕ) (m : Option ℕ) where
-  first-reaches : NextIs used b x i n → NextIs defined b x i m → is_first n m ≡ true → Reaches used defined b x i
-  first-reaches = by n m
-    where
-      by : (n m : Option ℕ) → NextIs used b x i n → NextIs defined b x i m → is_first n m ≡ true → Reaches used defined b x i
-      by None m u d e = absurd (true≢false (sym e))
-      by (Some j) None u d e = record { index = j; from = u.0; use_there = u.1; clear = λ k l h c. d k l c }
-      by (Some j) (Some k) u d e = let le : j ≤ k = grind (arith, nat_tests) in record { index = j; from = u.0; use_there = u.1; clear = λ z l h c. d.2 z l (omega arith) c }
+module _ (uses : ℕ → Type 0) (defined : List Triple) (b x i : ℕ) where
+  first-reaches : (n m : Option ℕ) → IsNext uses i n → NextIs defined b x i m → is_first n m ≡ true → Reaches uses defined b x i
+  first-reaches None m u d e = absurd (true≢false (sym e))
+  first-reaches (Some j) None u d e = record { index = j; from = u.0; use_there = u.1; clear = λ k l h c. d k l c }
+  first-reaches (Some j) (Some k) u d e = let le : j ≤ k = grind (arith, nat_tests) in record { index = j; from = u.0; use_there = u.1; clear = λ z l h c. d.2 z l (omega arith) c }
 
-  reaches-first : NextIs used b x i n → NextIs defined b x i m → Reaches used defined b x i → is_first n m ≡ true
-  reaches-first = by n m
+  reaches-first : (n m : Option ℕ) → IsNext uses i n → NextIs defined b x i m → Reaches uses defined b x i → is_first n m ≡ true
+  reaches-first None m u d r = absurd (u r.index r.from r.use_there)
+  reaches-first (Some j) None u d r = refl
+  reaches-first (Some j) (Some k) u d r = near (leb j k) refl
     where
-      by : (n m : Option ℕ) → NextIs used b x i n → NextIs defined b x i m → Reaches used defined b x i → is_first n m ≡ true
-      by None m u d r = absurd (u r.index r.from r.use_there)
-      by (Some j) None u d r = refl
-      by (Some j) (Some k) u d r = near (leb j k) refl
+      near : (q : Bool) → leb j k ≡ q → is_first (Some j) (Some k) ≡ true
+      near true e = e
+      near false e = after (ltb r.index j) refl
         where
-          near : (q : Bool) → leb j k ≡ q → is_first (Some j) (Some k) ≡ true
-          near true e = e
-          near false e = after (ltb r.index j) refl
-            where
-              after : (q : Bool) → ltb r.index j ≡ q → is_first (Some j) (Some k) ≡ true
-              after true g = absurd (u.2 r.index r.from (grind (arith, nat_tests)) r.use_there)
-              after false g = absurd (r.clear k d.0 (grind (arith, nat_tests)) d.1)
+          after : (q : Bool) → ltb r.index j ≡ q → is_first (Some j) (Some k) ≡ true
+          after true g = absurd (u.2 r.index r.from (grind (arith, nat_tests)) r.use_there)
+          after false g = absurd (r.clear k d.0 (grind (arith, nat_tests)) d.1)
+
+-- an element of a mapped list
+get-map : {A B : Type 0} (f : A → B) (xs : List A) (k : ℕ) (x : A) → slice_get xs k ≡ Some x → slice_get (map f xs) k ≡ Some (f x)
+get-map f [] k x e = cc
+get-map f (y ∷ ys) zero x e = let same : y ≡ x = cc in ap (λ z. Some (f z)) same
+get-map f (y ∷ ys) (suc k) x e = get-map f ys k x e
+
+get-from-map : {A B : Type 0} (f : A → B) (xs : List A) (k : ℕ) (z : B) → slice_get (map f xs) k ≡ Some z → (x : A) × (slice_get xs k ≡ Some x) × (f x ≡ z)
+get-from-map f [] k z e = cc
+get-from-map f (y ∷ ys) zero z e = (y, refl, cc)
+get-from-map f (y ∷ ys) (suc k) z e = get-from-map f ys k z e
 
 module _ (defined : List Triple) (b x : ℕ) where
   clear-from : (i : ℕ) (m : Option ℕ) → NextIs defined b x 0 m → is_first (Some i) m ≡ true → (k : ℕ) → k < i → Contains defined (b, x, k) → ⊥
@@ -220,60 +225,106 @@ module _ (f : Function) (blocks : List Block) (body : f.blocks ≡ Some blocks) 
           let at-s : IsWanted used defined es x s.0 = subst (λ (z : Point). IsWanted used defined es x z.block.0) (sym t) at-q in
           used_later {s = s.0} (edge-holds blocks es es_sorted p.block.0 s.0 blk e m) (none-to defined p.block.0 x (next defined p.block.0 x 0) (next-is defined p.block.0 x 0 defined_sorted.ascends) (clear-all p.block.0 x p.index blk e l c)) at-s
 
-  module _ (ends : List Pair) (all : List Triple) (ends_are : AreEnds used defined es ends) (all_sorted : Sorts (used ++ ends_used blocks ends) all) where
-    all-used : (t : Triple) → Contains used t → Contains all t
-    all-used t m = Contains-permutation (used ++ ends_used blocks ends) all t all_sorted.same (Contains-append_left used (ends_used blocks ends) t m)
+  -- the name is used at the end of the block, by what follows
+  record EndUse (b x i : ℕ) : Type 0 where
+    blk : Block
+    at_block : slice_get blocks b ≡ Some blk
+    is : i ≡ end_index blk
+    after : IsWantedAfter used defined es x b
 
-    all-ends : (t : Triple) → Contains (ends_used blocks ends) t → Contains all t
-    all-ends t m = Contains-permutation (used ++ ends_used blocks ends) all t all_sorted.same (Contains-append_right used (ends_used blocks ends) t m)
+  abbrev Uses : ℕ → ℕ → ℕ → Type 0
+  Uses b x i = Contains used (b, x, i) ⊎ EndUse b x i
 
-    reached : (x : ℕ) (ps : List Point) (p : Point) → IsWalk f p ps → ReadsFirst f (name x) p ps → Reaches all defined p.block.0 x p.index
-    reached x [] p w r = record { index = p.index; from = omega arith; use_there = all-used (p.block.0, x, p.index) (reads-at p x r); clear = λ k l m c. absurd (omega arith) }
-    reached x (q ∷ qs) p w r = by (reached x qs q w.1 r.1) (moves p q w.0)
+  reached : (x : ℕ) (ps : List Point) (p : Point) → IsWalk f p ps → ReadsFirst f (name x) p ps → Reaches (Uses p.block.0 x) defined p.block.0 x p.index
+  reached x [] p w r = record { index = p.index; from = omega arith; use_there = inl (reads-at p x r); clear = λ k l m c. absurd (omega arith) }
+  reached x (q ∷ qs) p w r = by (reached x qs q w.1 r.1) (moves p q w.0)
+    where
+      back : (blk : Block) → slice_get blocks p.block.0 ≡ Some blk → Reaches (Uses p.block.0 x) defined p.block.0 x (p.index + 1) → Reaches (Uses p.block.0 x) defined p.block.0 x p.index
+      back blk e h = record { index = h.index; from = omega (arith, h.from); use_there = h.use_there; clear = each }
+        where
+          each : (k : ℕ) → p.index ≤ k → k < h.index → Contains defined (p.block.0, x, k) → ⊥
+          each k l m c = near (leb (p.index + 1) k) refl
+            where
+              near : (z : Bool) → leb (p.index + 1) k ≡ z → ⊥
+              near true g = h.clear k (grind (arith, nat_tests)) m c
+              near false g = let same : k ≡ p.index = grind (arith, nat_tests) in not-defined p x blk e r.0 (subst (λ z. Contains defined (p.block.0, x, z)) same c)
+
+      by : Reaches (Uses q.block.0 x) defined q.block.0 x q.index → (blk : Block) × (slice_get blocks p.block.0 ≡ Some blk) × Moves blk p q → Reaches (Uses p.block.0 x) defined p.block.0 x p.index
+      by h (blk, e, along s l) = back blk e (subst (λ (z : Point). Reaches (Uses z.block.0 x) defined z.block.0 x z.index) (sym s) h)
+      by h (blk, e, over s m t l) =
+          let at-q : IsWanted used defined es x q.block.0 = wanted x qs q w.1 r.1 (subst (λ (z : Point). (k : ℕ) → k < z.index → Contains defined (z.block.0, x, k) → ⊥) t (λ k h z. absurd (omega arith))) in
+          let at-s : IsWanted used defined es x s.0 = subst (λ (z : Point). IsWanted used defined es x z.block.0) (sym t) at-q in
+          let there : IsWantedAfter used defined es x p.block.0 = record { target = s.0; edge = edge-holds blocks es es_sorted p.block.0 s.0 blk e m; wanted = at-s } in
+          record { index = p.index; from = omega arith; use_there = inr (record { blk = blk; at_block = e; is = l; after = there }); clear = λ k l m c. absurd (omega arith) }
+
+  lives : (g : FuncId) (b x i : ℕ) → Reaches (Uses b x) defined b x i → IsLive f (pt g b i) (name x)
+  lives g b x i r = elim r.use_there [ inl u ↦ by-use (used-step b x r.index u) | inr u ↦ by-end u ]
+    where
+      by-use : StepHas blocks (step_reads f (block_id b)) b x r.index → IsLive f (pt g b i) (name x)
+      by-use h = straight g b x h.blk h.at_block (r.index - i) i r.index (omega (arith, r.from)) (reads-within h.blk b r.index x h.has) r.clear (read-here g b x r.index h.blk h.at_block h.has)
+
+      by-end : EndUse b x r.index → IsLive f (pt g b i) (name x)
+      by-end h =
+          let w = h.after in
+          let e = edge-from blocks es es_sorted b w.target w.edge in
+          let at-end = over-edge g b x w.target e.blk e.at_block e.leads (sound g w.wanted) in
+          let same : e.blk ≡ h.blk = some-block e.blk h.blk (sym e.at_block ∙ h.at_block) in
+          let is : end_index e.blk ≡ r.index = ap end_index same ∙ sym h.is in
+          straight g b x h.blk h.at_block (r.index - i) i r.index (omega (arith, r.from)) (omega (arith, h.is)) r.clear (subst (λ j. IsLive f (pt g b j) (name x)) is at-end)
+
+  module _ (runs : List Triple) (last : List ℕ) (runs_are : AreRuns used defined es runs) (last_is : last ≡ map end_index blocks) where
+    -- no use in a block stands past its terminator
+    used-within : (b x i k : ℕ) → Contains used (b, x, i) → EndUse b x k → i ≤ k
+    used-within b x i k m e =
+        let h = used-step b x i m in
+        let same : h.blk ≡ e.blk = some-block h.blk e.blk (sym h.at_block ∙ e.at_block) in
+        let within : i ≤ end_index h.blk = reads-within h.blk b i x h.has in
+        let is : k ≡ end_index h.blk = e.is ∙ ap end_index (sym same) in
+        omega arith
+
+    last-at : (b x k : ℕ) → EndUse b x k → slice_get last b ≡ Some k
+    last-at b x k e = ap (λ l. slice_get l b) last_is ∙ (get-map end_index blocks b e.blk e.at_block ∙ ap Some (sym e.is))
+
+    end-use : (b x k : ℕ) → in_run runs x b ≡ true → slice_get last b ≡ Some k → EndUse b x k
+    end-use b x k t e =
+        let r = get-from-map end_index blocks b k (ap (λ l. slice_get l b) (sym last_is) ∙ e) in
+        record { blk = r.0; at_block = r.1; is = sym r.2; after = (runs_are x b).0 t }
+
+    in-run : (b x k : ℕ) → EndUse b x k → in_run runs x b ≡ true
+    in-run b x k e = (runs_are x b).1 e.after
+
+    end-is : (b x i : ℕ) → NextIs used b x i None → IsNext (Uses b x) i (end_use (in_run runs x b) (slice_get last b) i)
+    end-is b x i u = at (in_run runs x b) refl (slice_get last b) refl
       where
-        back : (blk : Block) → slice_get blocks p.block.0 ≡ Some blk → Reaches all defined p.block.0 x (p.index + 1) → Reaches all defined p.block.0 x p.index
-        back blk e h = record { index = h.index; from = omega (arith, h.from); use_there = h.use_there; clear = each }
-          where
-            each : (k : ℕ) → p.index ≤ k → k < h.index → Contains defined (p.block.0, x, k) → ⊥
-            each k l m c = near (leb (p.index + 1) k) refl
-              where
-                near : (z : Bool) → leb (p.index + 1) k ≡ z → ⊥
-                near true g = h.clear k (grind (arith, nat_tests)) m c
-                near false g = let same : k ≡ p.index = grind (arith, nat_tests) in not-defined p x blk e r.0 (subst (λ z. Contains defined (p.block.0, x, z)) same c)
+        some-same : (m n : ℕ) → Some m ≡ Some n → m ≡ n
+        some-same m n e = cc
 
-        by : Reaches all defined q.block.0 x q.index → (blk : Block) × (slice_get blocks p.block.0 ≡ Some blk) × Moves blk p q → Reaches all defined p.block.0 x p.index
-        by h (blk, e, along s l) = back blk e (subst (λ (z : Point). Reaches all defined z.block.0 x z.index) (sym s) h)
-        by h (blk, e, over s m t l) =
-            let at-q : IsWanted used defined es x q.block.0 = wanted x qs q w.1 r.1 (subst (λ (z : Point). (k : ℕ) → k < z.index → Contains defined (z.block.0, x, k) → ⊥) t (λ k h z. absurd (omega arith))) in
-            let at-s : IsWanted used defined es x s.0 = subst (λ (z : Point). IsWanted used defined es x z.block.0) (sym t) at-q in
-            let listed = (ends_are p.block.0 x).1 (let u : IsWantedAfter used defined es x p.block.0 = record { target = s.0; edge = edge-holds blocks es es_sorted p.block.0 s.0 blk e m; wanted = at-s } in u) in
-            record { index = p.index; from = omega arith; use_there = all-ends (p.block.0, x, p.index) (subst (λ z. Contains (ends_used blocks ends) (p.block.0, x, z)) (sym l) (ends-has blocks ends p.block.0 x blk e listed)); clear = λ k l m c. absurd (omega arith) }
+        near : (n : ℕ) → in_run runs x b ≡ true → slice_get last b ≡ Some n → (r : Bool) → leb i n ≡ r → IsNext (Uses b x) i (if r then Some n else None)
+        near n t g true e = (grind (arith, nat_tests), inr (end-use b x n t g), λ k l m w. elim w [ inl c ↦ u k l c | inr h ↦ (let same : k ≡ n = some-same k n (sym (last-at b x k h) ∙ g) in absurd (omega arith)) ])
+        near n t g false e = λ k l w. elim w [ inl c ↦ u k l c | inr h ↦ (let same : k ≡ n = some-same k n (sym (last-at b x k h) ∙ g) in absurd (grind (arith, nat_tests))) ]
 
-    lives : (g : FuncId) (b x i : ℕ) → Reaches all defined b x i → IsLive f (pt g b i) (name x)
-    lives g b x i r = elim (Contains-append_cases used (ends_used blocks ends) (b, x, r.index) (Contains-permutation all (used ++ ends_used blocks ends) (b, x, r.index) (IsPermutation-sym (used ++ ends_used blocks ends) all all_sorted.same) r.use_there)) [ inl u ↦ by-use (used-step b x r.index u) | inr u ↦ by-end (ends-from blocks ends b x r.index u) ]
+        at : (t : Bool) → in_run runs x b ≡ t → (o : Option ℕ) → slice_get last b ≡ o → IsNext (Uses b x) i (end_use t o i)
+        at false e o g = λ k l w. elim w [ inl c ↦ u k l c | inr h ↦ true≢false (sym (in-run b x k h) ∙ e) ]
+        at true e None g = λ k l w. elim w [ inl c ↦ u k l c | inr h ↦ (let same : Some k ≡ None = sym (last-at b x k h) ∙ g in absurd cc) ]
+        at true e (Some n) g = near n e g (leb i n) refl
+
+    use-is : (b x i : ℕ) → IsNext (Uses b x) i (or_else (next used b x i) (end_use (in_run runs x b) (slice_get last b) i))
+    use-is b x i = go (next used b x i) (next-is used b x i used_sorted.ascends)
       where
-        by-use : StepHas blocks (step_reads f (block_id b)) b x r.index → IsLive f (pt g b i) (name x)
-        by-use h = straight g b x h.blk h.at_block (r.index - i) i r.index (omega (arith, r.from)) (reads-within h.blk b r.index x h.has) r.clear (read-here g b x r.index h.blk h.at_block h.has)
+        go : (o : Option ℕ) → NextIs used b x i o → IsNext (Uses b x) i (or_else o (end_use (in_run runs x b) (slice_get last b) i))
+        go None u = end-is b x i u
+        go (Some n) u = (u.0, inl u.1, λ k l m w. elim w [ inl c ↦ u.2 k l m c | inr h ↦ (let le : n ≤ k = used-within b x n k u.1 h in absurd (omega arith)) ])
 
-        by-end : EndMark blocks ends b x r.index → IsLive f (pt g b i) (name x)
-        by-end h =
-            let w = (ends_are b x).0 h.listed in
-            let e = edge-from blocks es es_sorted b w.target w.edge in
-            let at-end = over-edge g b x w.target e.blk e.at_block e.leads (sound g w.wanted) in
-            let same : e.blk ≡ h.blk = some-block e.blk h.blk (sym e.at_block ∙ h.at_block) in
-            let is : end_index e.blk ≡ r.index = ap end_index same ∙ sym h.is in
-            straight g b x h.blk h.at_block (r.index - i) i r.index (omega (arith, r.from)) (omega (arith, h.is)) r.clear (subst (λ j. IsLive f (pt g b j) (name x)) is at-end)
-
-    pub answers : (p : Point) (x : ℕ) → (is_first (next all p.block.0 x p.index) (next defined p.block.0 x p.index) ≡ true) ↔ IsLive f p (name x)
+    pub answers : (p : Point) (x : ℕ) → (is_first (or_else (next used p.block.0 x p.index) (end_use (in_run runs x p.block.0) (slice_get last p.block.0) p.index)) (next defined p.block.0 x p.index) ≡ true) ↔ IsLive f p (name x)
     answers p x = (
-      λ e. lives p.func p.block.0 x p.index (first-reaches all defined p.block.0 x p.index (next all p.block.0 x p.index) (next defined p.block.0 x p.index) (next-is all p.block.0 x p.index all_sorted.ascends) (next-is defined p.block.0 x p.index defined_sorted.ascends) e),
-      λ l. reaches-first all defined p.block.0 x p.index (next all p.block.0 x p.index) (next defined p.block.0 x p.index) (next-is all p.block.0 x p.index all_sorted.ascends) (next-is defined p.block.0 x p.index defined_sorted.ascends) (reached x l.walk p l.follows l.reads),
+      λ e. lives p.func p.block.0 x p.index (first-reaches (Uses p.block.0 x) defined p.block.0 x p.index (or_else (next used p.block.0 x p.index) (end_use (in_run runs x p.block.0) (slice_get last p.block.0) p.index)) (next defined p.block.0 x p.index) (use-is p.block.0 x p.index) (next-is defined p.block.0 x p.index defined_sorted.ascends) e),
+      λ l. reaches-first (Uses p.block.0 x) defined p.block.0 x p.index (or_else (next used p.block.0 x p.index) (end_use (in_run runs x p.block.0) (slice_get last p.block.0) p.index)) (next defined p.block.0 x p.index) (use-is p.block.0 x p.index) (next-is defined p.block.0 x p.index defined_sorted.ascends) (reached x l.walk p l.follows l.reads),
     )
 
 -- the tables that are made of a function's blocks tell its live names
 pub IsFlowOf-built : (f : Function) (blocks : List Block) (flow : Flow) → f.blocks ≡ Some blocks → IsBuiltFrom blocks flow → IsFlowOf f flow
 unfolding live
-IsFlowOf-built f blocks flow body b p x = answers f blocks body b.es b.used flow.defined b.es_sorted b.defined_sorted b.used_sorted b.ends flow.used b.ends_are b.all_sorted p x.0
+IsFlowOf-built f blocks flow body b p x = answers f blocks body b.es flow.used flow.defined b.es_sorted b.defined_sorted b.used_sorted flow.runs flow.last b.runs_are b.last_is p x.0
 
 pub ok-then : {T E : Type 0} {P Q : T → Type 0} (r : Result T E) → ((x : T) → P x → Q x) → IfOk r P → IfOk r Q
 ok-then (Ok x) f p = f x p

@@ -14,8 +14,8 @@ use Rattle.ir_module.specs.declared.tree.Phi.{Phi}
 use Rattle.ir_module.specs.Edges.{edges}
 use Rattle.ir_module.specs.Steps.{Step, PhiAt, InstAt, TermAt, NoStep, step_at}
 use Rattle.ir_module.specs.Tree.{block_at}
-use Rattle.name_flow.specs.code.Marks.{gather, marks, inst_used, inst_defined, phi_defined, end_index, block_used, block_defined, block_edges, entry_used_at, entry_used, entries_used, phis_used, block_phis_used, end_used_at, ends_used}
-use Rattle.name_flow.specs.code.Spread.{Pair, IsNarrow}
+use Rattle.name_flow.specs.code.Marks.{gather, marks, inst_used, inst_defined, phi_defined, end_index, block_used, block_defined, block_edges, entry_used_at, entry_used, entries_used, phis_used, block_phis_used}
+use Rattle.name_flow.specs.code.Spread.{IsNarrow}
 use Rattle.name_flow.specs.code.Triples.{Triple, holds, Sorts}
 use Rattle.ir_module.specs.Operands.{step_defines}
 use Rattle.name_flow.specs.Uses.{reads, inst_reads, term_reads, entries_read, phis_read, step_reads}
@@ -322,34 +322,3 @@ module _ (f : Function) (blocks : List Block) (body : f.blocks ≡ Some blocks) 
       by (at_inst k inst q p) n = in-used (Contains-append_left (gather (inst_used b) (length blk.phis) blk.insts) (marks b (end_index blk) (term_reads blk.term)) (b, x, i) (subst (λ j. Contains (gather (inst_used b) (length blk.phis) blk.insts) (b, x, j)) (sym q) (Contains-insts (λ inst. inst_reads inst.what) b (length blk.phis) blk.insts k inst x p n)))
       by (at_term q) n = elim (Contains-append_cases (term_reads blk.term) (flat_map (phis-into b) (edges blk.term)) (name x) n) [ inl k ↦ in-used (Contains-append_right (gather (inst_used b) (length blk.phis) blk.insts) (marks b (end_index blk) (term_reads blk.term)) (b, x, i) (subst (λ j. Contains (marks b (end_index blk) (term_reads blk.term)) (b, x, j)) (sym q) (Contains-marks b (end_index blk) (term_reads blk.term) x k))) | inr k ↦ (let r = flat-from (phis-into b) (edges blk.term) (name x) k in by-target r.0 r.1 (slice_get blocks r.0.0) refl (subst (λ o. Contains (phis_read (block_id b) o) (name x)) (block-at r.0) r.2) q) ]
       by (at_none q) n = absurd (none (name x) n)
-
--- uses at the ends of blocks
-pub record EndMark (blocks : List Block) (ends : List Pair) (b x i : ℕ) : Type 0 where
-  pub blk : Block
-  pub at_block : slice_get blocks b ≡ Some blk
-  pub is : i ≡ end_index blk
-  pub listed : Contains ends (b, x)
-
-pub ends-from : (blocks : List Block) (ends : List Pair) (b x i : ℕ) → Contains (ends_used blocks ends) (b, x, i) → EndMark blocks ends b x i
-ends-from blocks [] b x i m = absurd (none (b, x, i) m)
-ends-from blocks (p ∷ ps) b x i m = elim (Contains-append_cases (end_used_at (slice_get blocks p.0) p) (ends_used blocks ps) (b, x, i) m) [ inl n ↦ by (slice_get blocks p.0) refl n | inr n ↦ more (ends-from blocks ps b x i n) ]
-  where
-    more : EndMark blocks ps b x i → EndMark blocks (p ∷ ps) b x i
-    more r = record { blk = r.blk; at_block = r.at_block; is = r.is; listed = there p (b, x) ps r.listed }
-
-    this : (blk : Block) → slice_get blocks p.0 ≡ Some blk → (◌≡◌ {A = Triple} (p.0, p.1, end_index blk) (b, x, i)) ⊎ Contains {X = Triple} [] (b, x, i) → EndMark blocks (p ∷ ps) b x i
-    this blk o (inr n) = absurd (none (b, x, i) n)
-    this blk o (inl e) =
-        let pair : ◌≡◌ {A = Pair} p (b, x) = λ j. ((e j).0, (e j).1) in
-        record { blk = blk; at_block = sym (ap (λ (q : Pair). slice_get blocks q.0) pair) ∙ o; is = sym (ap (λ (t : Triple). t.2) e); listed = subst (λ (q : Pair). Contains (p ∷ ps) q) pair (here p ps) }
-
-    by : (o : Option Block) → slice_get blocks p.0 ≡ o → Contains (end_used_at o p) (b, x, i) → EndMark blocks (p ∷ ps) b x i
-    by None o n = absurd (none (b, x, i) n)
-    by (Some blk) o n = this blk o (cases (p.0, p.1, end_index blk) (b, x, i) [] n)
-
-pub ends-has : (blocks : List Block) (ends : List Pair) (b x : ℕ) (blk : Block) → slice_get blocks b ≡ Some blk → Contains ends (b, x) → Contains (ends_used blocks ends) (b, x, end_index blk)
-ends-has blocks [] b x blk e m = absurd (none (b, x) m)
-ends-has blocks (p ∷ ps) b x blk e m = elim (cases p (b, x) ps m) [ inl q ↦ Contains-append_left (end_used_at (slice_get blocks p.0) p) (ends_used blocks ps) (b, x, end_index blk) (first q) | inr n ↦ Contains-append_right (end_used_at (slice_get blocks p.0) p) (ends_used blocks ps) (b, x, end_index blk) (ends-has blocks ps b x blk e n) ]
-  where
-    first : ◌≡◌ {A = Pair} p (b, x) → Contains (end_used_at (slice_get blocks p.0) p) (b, x, end_index blk)
-    first q = subst (λ (r : Pair). Contains (end_used_at (slice_get blocks r.0) r) (b, x, end_index blk)) (sym q) (subst (λ o. Contains (end_used_at o (b, x)) (b, x, end_index blk)) (sym e) (here (b, x, end_index blk) []))

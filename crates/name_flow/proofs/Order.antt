@@ -8,6 +8,7 @@ use Rattle.std.specs.declared.cmp.Ordering.TheVariants.{Less, Equal, Greater}
 use Rattle.std.specs.List.Sorted.{IsPartitionPoint, IsPartitionedBy}
 use Rattle.std.proofs.lemmas.List.Sorted.{sorted_far, ranks_by, searchable_from_sorted, IsPartitionedBy-ltb}
 use Rattle.std.proofs.lemmas.Bool.Decides.{nat_tests}
+use Rattle.name_flow.specs.code.Runs.{reaches, begins, in_run}
 use Rattle.name_flow.specs.code.Triples.{Triple, triple_cmp, is_below, is_from, next, holds, is_number, NextHolds, Ascends}
 
 pub triple_total : IsTotalOrder triple_cmp
@@ -24,7 +25,7 @@ cmp-Greater : (m n : ℕ) → n < m → nat_cmp m n ≡ Greater
 cmp-Greater m n h = grind (arith, nat_tests)
 
 -- the parts of a triple that is not below another
-not_below : (x y z a b c : ℕ) → is_lt (triple_cmp (x, y, z) (a, b, c)) ≡ false → (a ≤ x) × (x ≡ a → b ≤ y) × (x ≡ a → y ≡ b → c ≤ z)
+pub not_below : (x y z a b c : ℕ) → is_lt (triple_cmp (x, y, z) (a, b, c)) ≡ false → (a ≤ x) × (x ≡ a → b ≤ y) × (x ≡ a → y ≡ b → c ≤ z)
 not_below x y z a b c h = (grind (arith, nat_tests), λ e. grind (arith, nat_tests), λ e f. grind (arith, nat_tests))
 
 below : (x y z a b c : ℕ) → is_lt (triple_cmp (x, y, z) (a, b, c)) ≡ true → (x ≤ a) × (x ≡ a → y ≤ b) × (x ≡ a → y ≡ b → z < c)
@@ -94,6 +95,41 @@ module _ (ts : List Triple) (a b c i : ℕ) (up : Ascends ts)
       each : (k : ℕ) (d' : Triple) → k < length ts → is_from a b c (get_or ts k d') ≡ false
       each k d' m = elim (leb i k) as (λ r. leb i k ≡ r → is_from a b c (get_or ts k d') ≡ false) [ true ↦ λ e. later k d' m (grind (arith, nat_tests)) | false ↦ λ e. front k d' (grind (arith, nat_tests)) ] refl
 
+-- a run is found as a number is
+run_below : (x b : ℕ) (t : Triple) → is_lt (triple_cmp t (x, b, 0)) ≡ true → reaches x b t ≡ false
+run_below x b t h = let s = below t.0 t.1 t.2 x b 0 h in grind (arith, nat_tests)
+
+run_at : (x b : ℕ) (t : Triple) → t.0 ≡ x → is_lt (triple_cmp t (x, b, 0)) ≡ false → reaches x b t ≡ true
+run_at x b t e h = let s : b ≤ t.1 = (not_below t.0 t.1 t.2 x b 0 h).1 e in grind (arith, nat_tests)
+
+run_after : (x b : ℕ) (e t : Triple) → is_lt (triple_cmp t e) ≡ false → is_lt (triple_cmp e (x, b, 0)) ≡ false → (e.0 ≡ x → ⊥) → reaches x b t ≡ false
+run_after x b e t h g other =
+    let s = (not_below t.0 t.1 t.2 e.0 e.1 e.2 h).0 in
+    let u = (not_below e.0 e.1 e.2 x b 0 g).0 in
+    grind (arith, nat_tests)
+
+module _ (ts : List Triple) (x b i : ℕ) (up : Ascends ts)
+    (point : IsPartitionPoint (λ t. is_below x b 0 t ≡ true) (λ t. is_below x b 0 t ≡ false) ts i) where
+  run-front : (k : ℕ) (d : Triple) → k < i → reaches x b (get_or ts k d) ≡ false
+  run-front k d l = run_below x b (get_or ts k d) (point.0 k d (omega arith) l)
+
+  pub run-end : i ≡ length ts → in_run ts x b ≡ false
+  run-end e = ap (begins b) (find-none (reaches x b) ts (λ k d l. run-front k d (omega arith)))
+
+  pub run-here : (d : Triple) → i < length ts → (get_or ts i d).0 ≡ x → in_run ts x b ≡ leb (get_or ts i d).2 b
+  run-here d l e = ap (begins b) (find-here (reaches x b) ts i d l run-front (run_at x b (get_or ts i d) e (point.1 i d (omega arith) l)))
+
+  pub run-past : (d : Triple) → i < length ts → ((get_or ts i d).0 ≡ x → ⊥) → in_run ts x b ≡ false
+  run-past d l other = ap (begins b) (find-none (reaches x b) ts each)
+    where
+      later : (k : ℕ) (d' : Triple) → k < length ts → i ≤ k → reaches x b (get_or ts k d') ≡ false
+      later k d' m le =
+          let far = sorted_far (λ x y. is_lt (triple_cmp x y)) (ranks_by triple_total (λ t. t)) ts up i k d le m in
+          ap (reaches x b) (same_default ts k d' d m) ∙ run_after x b (get_or ts i d) (get_or ts k d) far (point.1 i d (omega arith) l) other
+
+      each : (k : ℕ) (d' : Triple) → k < length ts → reaches x b (get_or ts k d') ≡ false
+      each k d' m = elim (leb i k) as (λ r. leb i k ≡ r → reaches x b (get_or ts k d') ≡ false) [ true ↦ λ e. later k d' m (grind (arith, nat_tests)) | false ↦ λ e. run-front k d' (grind (arith, nat_tests)) ] refl
+
 -- what next answers
 record Found {A : Type 0} (test : A → Bool) (xs : List A) (t : A) : Type 0 where
   pub at : ℕ
@@ -132,9 +168,13 @@ from-parts a b c t h = (grind (arith, nat_tests), grind (arith, nat_tests), grin
 from-number : (a b c k : ℕ) → c ≤ k → is_from a b c (a, b, k) ≡ true
 from-number a b c k l = grind (arith, nat_tests)
 
+-- the least number from c on of which P holds
+abbrev pub IsNext : (ℕ → Type 0) → ℕ → Option ℕ → Type 0
+IsNext P c None = (k : ℕ) → c ≤ k → P k → ⊥
+IsNext P c (Some n) = (c ≤ n) × P n × ((k : ℕ) → c ≤ k → k < n → P k → ⊥)
+
 abbrev pub NextIs : List Triple → ℕ → ℕ → ℕ → Option ℕ → Type 0
-NextIs ts a b c None = (k : ℕ) → c ≤ k → Contains ts (a, b, k) → ⊥
-NextIs ts a b c (Some n) = (c ≤ n) × Contains ts (a, b, n) × ((k : ℕ) → c ≤ k → k < n → Contains ts (a, b, k) → ⊥)
+NextIs ts a b c = IsNext (λ k. Contains ts (a, b, k)) c
 
 pub next-is : (ts : List Triple) (a b c : ℕ) → Ascends ts → NextIs ts a b c (next ts a b c)
 next-is ts a b c up = go (find (is_from a b c) ts) refl

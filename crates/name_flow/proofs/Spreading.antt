@@ -1,12 +1,12 @@
 -- How pairs are added, and what follows for the names that are wanted.
-use Rattle.std.proofs.Common.{◌≡◌, zero, suc, ◌⊎◌, ℕ, ◌+◌, ◌<◌, ◌≤◌, Bool, true, false, List, [], ◌∷◌, ◌++◌, length, get_or, Option, Some, None, refl, sym, ap, ◌∙◌, arith, inl, inr, subst, Contains, slice_get, if◌then◌else◌, ◌&&◌, nat_eq, ltb, take, drop, ◌-◌, true≢false, MatchBool, append_assoc}
+use Rattle.std.proofs.Common.{◌≡◌, zero, suc, ◌⊎◌, ℕ, ◌+◌, ◌<◌, ◌≤◌, Bool, true, false, List, [], ◌∷◌, ◌++◌, length, get_or, Option, Some, None, refl, sym, ap, ◌∙◌, arith, inl, inr, subst, Contains, slice_get, if◌then◌else◌, ◌&&◌, nat_eq, ltb, map, take, drop, ◌-◌, true≢false, MatchBool, append_assoc}
 use Rattle.std.specs.List.{list_any}
 use Rattle.std.proofs.lemmas.Map.Views.{Contains-from_any}
 use Rattle.std.proofs.lemmas.Bool.Decides.{nat_tests}
 use Rattle.std.proofs.lemmas.Grind.{common_steps}
 use Rattle.std.proofs.lemmas.List.Elements.{Contains-append_left, Contains-push, Contains-push_cases}
 use Rattle.name_flow.specs.code.Spread.{Pair, Adds, Grew, IsWanted, used_here, used_later, IsWantedAfter, IsSpread, AreEntered, IsFirstUse, Seeds, IsSeeded, GrewAt, AddsEnd, EntersWhere, Enters}
-use Rattle.name_flow.specs.code.Built.{AreEnds}
+use Rattle.name_flow.specs.code.Runs.{AreEnds, name_first}
 use Rattle.name_flow.proofs.Members.{none, here, there, cases}
 use Rattle.name_flow.specs.code.Triples.{Triple, next, holds, is_first, NextHolds}
 
@@ -114,9 +114,9 @@ module _ (defined : List Triple) where
 rest-is : (t : Triple) (rest : List Triple) → take (length (t ∷ rest) - 1) (drop 1 (t ∷ rest)) ≡ rest
 rest-is t rest = grind (arith, common_steps)
 
-pub IsSeeded-uncons : (defined : List Triple) (d : Triple) (us : List Triple) (a b c : List Pair) → 1 ≤ length us → Seeds defined (get_or us 0 d) a b → IsSeeded (take (length us - 1) (drop 1 us)) defined b c → IsSeeded us defined a c
+pub IsSeeded-uncons : (defined : List Triple) (d : Triple) (us : List Triple) (a b c : List Pair) → 1 ≤ length us → Seeds defined (name_first (get_or us 0 d)) a b → IsSeeded (map name_first (take (length us - 1) (drop 1 us))) defined b c → IsSeeded (map name_first us) defined a c
 IsSeeded-uncons defined d [] a b c l s r = absurd (omega arith)
-IsSeeded-uncons defined d (t ∷ rest) a b c l s r = IsSeeded-cons defined t rest a b c s (subst (λ z. IsSeeded z defined b c) (rest-is t rest) r)
+IsSeeded-uncons defined d (t ∷ rest) a b c l s r = IsSeeded-cons defined (name_first t) (map name_first rest) a b c s (subst (λ z. IsSeeded (map name_first z) defined b c) (rest-is t rest) r)
 
 -- an end is added
 module _ (p : Pair) (old new : List Pair) where

@@ -1,6 +1,5 @@
 -- Which local names the step at a point reads, and which it defines.
 use Rattle.std.specs.Prelude.{List, [], ◌∷◌, ◌++◌, flat_map, Option, None, Some, ◌==◌, if◌then◌else◌}
-use Rattle.std.specs.Option.{option_to_list}
 use Rattle.ir_values.specs.declared.ids.BlockId.{BlockId}
 use Rattle.ir_values.specs.declared.ids.LocalId.{LocalId}
 use Rattle.ir_module.specs.declared.tree.Block.{Block}

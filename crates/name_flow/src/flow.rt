@@ -3,14 +3,15 @@ ghost use Rattle.std.specs.Prelude.{◌≡◌, ◌++◌, slice_get, IfOk, IfSome
 ghost use Rattle.name_flow.specs.code.Built.{IsBuiltFrom};
 ghost use Rattle.name_flow.specs.code.Marks.{gather, block_used, block_defined, block_edges, block_phis_used};
 ghost use Rattle.name_flow.specs.code.Spread.{IsNarrow};
-ghost use Rattle.name_flow.specs.code.Triples.{Sorts};
-ghost use Rattle.name_flow.specs.Tables.{live, IsFlowOf, HasBody};
+ghost use Rattle.name_flow.specs.code.Runs.{in_run};
+ghost use Rattle.name_flow.specs.code.Triples.{Sorts, next};
+ghost use Rattle.name_flow.specs.Tables.{live, or_else, end_use, IsFlowOf, HasBody};
 
-use crate::marks::{Marks, push_definitions, push_edges, push_end_uses, push_phi_uses, push_uses};
-use crate::spread::ends;
+use crate::marks::{Marks, end_indices, push_definitions, push_edges, push_phi_uses, push_uses};
+use crate::runs::runs;
 use crate::triples::Triples;
 use ir_module::{Block, Module, Point};
-use ir_values::{FuncId, LocalId, Memory};
+use ir_values::{FuncId, LocalId, Memory, Seq};
 use std::alloc::Global;
 
 /// Where the local names of a function are live. A name is live at a point where some walk from
@@ -18,10 +19,14 @@ use std::alloc::Global;
 /// blocks that they come from (LLVM Language Reference, 'phi Instruction').
 #[derive(Debug, Drop)]
 pub struct Flow {
-    /// Block, name and index of each use, the names that are live at the end of a block included.
+    /// Block, name and index of each use.
     used: Triples,
     /// Block, name and index of each definition.
     defined: Triples,
+    /// Name, last block and first block of each run of consecutive blocks at whose ends a name is live.
+    runs: Triples,
+    /// The index of each block's terminator.
+    last: Seq<u64>,
 }
 
 impl Flow {
@@ -42,12 +47,13 @@ impl Flow {
         let edges = edges(alloc, blocks)?;
         let defined = definitions(alloc, blocks)?;
         let used = uses(alloc, blocks, &edges)?;
-        let ends = ends(alloc, &used, &defined, &edges)?;
-        let mut all = Marks::from_vec(used.into_vec());
-        push_end_uses(&mut all, blocks, ends.as_slice())?;
+        let runs = runs(alloc, &used, &defined, &edges)?;
+        let last = end_indices(alloc, blocks)?;
         Ok(Flow {
-            used: Triples::sort(all.into_vec()),
+            used,
             defined,
+            runs,
+            last,
         })
     }
 
@@ -57,13 +63,35 @@ impl Flow {
         ensures { result ≡ live self.now p x }
     {
         let b = u64::from(p.block.0);
-        let Some(used) = self.used.next(b, x.0, p.index) else {
+        let Some(used) = self.next_use(b, x.0, p.index) else {
             return false;
         };
         match self.defined.next(b, x.0, p.index) {
             Some(defined) => used <= defined,
             None => true,
         }
+    }
+
+    /// The next use of the name `x` in the block `b` from the index `i` on.
+    fn next_use(&self, b: u64, x: u64, i: u64) -> Option<u64>
+        ensures { result ≡ or_else (next self.now.used b x i) (end_use (in_run self.now.runs x b) (slice_get self.now.last b) i) }
+    {
+        match self.used.next(b, x, i) {
+            Some(used) => Some(used),
+            None => self.end_use(b, x, i),
+        }
+    }
+
+    /// The index of the terminator of the block `b`, if the name `x` lives at its end and it stands
+    /// at `i` or later.
+    fn end_use(&self, b: u64, x: u64, i: u64) -> Option<u64>
+        ensures { result ≡ end_use (in_run self.now.runs x b) (slice_get self.now.last b) i }
+    {
+        if !self.runs.in_run(x, b) {
+            return None;
+        }
+        let last = self.last.as_slice().get(b as usize).copied()?;
+        if i <= last { Some(last) } else { None }
     }
 }
 

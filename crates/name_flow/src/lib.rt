@@ -4,6 +4,7 @@
 mod flow;
 mod marks;
 mod pairs;
+mod runs;
 mod spread;
 mod triples;
 

@@ -1,5 +1,5 @@
 //! The uses and the definitions of local names in a function, and its edges.
-ghost use Rattle.std.specs.Prelude.{◌≡◌, ◌+◌, ◌^◌, ◌<◌, ◌++◌, length, slice_get, OnOk, option_copied, flat_map, map};
+ghost use Rattle.std.specs.Prelude.{◌≡◌, ◌+◌, ◌^◌, ◌<◌, ◌++◌, length, slice_get, IfOk, OnOk, option_copied, flat_map, map};
 ghost use Rattle.ir_module.specs.Operands.{callee_operand};
 ghost use Rattle.name_flow.specs.code.Marks as spec;
 ghost use Rattle.name_flow.specs.Uses.{reads, inst_reads, term_reads};
@@ -7,6 +7,7 @@ ghost use Rattle.name_flow.specs.Uses.{reads, inst_reads, term_reads};
 use crate::triples::Triples;
 use ir_module::{Block, Callee, Edges, Inst, InstKind, Operand, Phi, Term, successors};
 use ir_values::{BlockId, Memory, Seq, Ty};
+use std::alloc::Global;
 
 /// Uses or definitions: block, name and index. Edges: block, 0 and predecessor.
 pub(crate) type Marks = Seq<(u64, u64, u64)>;
@@ -263,26 +264,14 @@ pub(crate) fn push_phi_uses(
     Ok(())
 }
 
-fn push_end(marks: &mut Marks, blocks: &[Block], pair: (u64, u64)) -> Result<(), Memory>
-    ensures { OnOk result (marks.new ≡ marks.old ++ spec.end_used_at (slice_get blocks.now pair.0) pair) }
+/// The indices of the terminators of the blocks.
+pub(crate) fn end_indices(alloc: Global, mut blocks: &[Block]) -> Result<Seq<u64>, Memory>
+    ensures { IfOk result (λ last. last ≡ map spec.end_index blocks.entry.now) }
 {
-    match block_at(blocks, pair.0) {
-        Some(block) => marks.push((pair.0, pair.1, end_index(block))),
-        None => Ok(()),
+    let mut last = Seq::new(alloc);
+    while let [block, rest @ ..] = blocks {
+        last.push(end_index(block))?;
+        blocks = rest;
     }
-}
-
-/// Adds a use at the end of the block for each pair of a block and a name.
-pub(crate) fn push_end_uses(
-    marks: &mut Marks,
-    blocks: &[Block],
-    mut pairs: &[(u64, u64)],
-) -> Result<(), Memory>
-    ensures { OnOk result (marks.new ≡ marks.old ++ spec.ends_used blocks.now pairs.entry.now) }
-{
-    while let [pair, rest @ ..] = pairs {
-        push_end(marks, blocks, *pair)?;
-        pairs = rest;
-    }
-    Ok(())
+    Ok(last)
 }

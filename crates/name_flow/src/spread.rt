@@ -1,6 +1,6 @@
 //! The names that are wanted at the starts and at the ends of blocks.
-ghost use Rattle.std.specs.Prelude.{◌≡◌, ◌<◌, length, slice_get, OnOk, IfOk};
-ghost use Rattle.name_flow.specs.code.Built.{AreEnds};
+ghost use Rattle.std.specs.Prelude.{◌≡◌, ◌<◌, length, map, slice_get, OnOk, IfOk};
+ghost use Rattle.name_flow.specs.code.Runs.{AreEnds, name_first};
 ghost use Rattle.name_flow.specs.code.Spread as spec;
 
 use crate::pairs::Pairs;
@@ -30,12 +30,12 @@ fn seed_use(starts: &mut Pairs, defined: &Triples, used: (u64, u64, u64)) -> Res
     Ok(())
 }
 
-/// Adds each use that no definition in its block comes before.
+/// Adds each use, of a name, a block and an index, that no definition in its block comes before.
 fn seed(starts: &mut Pairs, mut uses: &[(u64, u64, u64)], defined: &Triples) -> Result<(), Memory>
-    ensures { OnOk result (spec.IsSeeded uses.entry.now defined.now starts.old starts.new) }
+    ensures { OnOk result (spec.IsSeeded (map name_first uses.entry.now) defined.now starts.old starts.new) }
 {
     while let [used, rest @ ..] = uses {
-        seed_use(starts, defined, *used)?;
+        seed_use(starts, defined, (used.1, used.0, used.2))?;
         uses = rest;
     }
     Ok(())
@@ -67,21 +67,22 @@ impl Spread {
     }
 }
 
-/// The pairs of a block and a name that is wanted at its end.
+/// The pairs of a block and a name that is wanted at its end, by these uses of a name, a block and
+/// an index.
 pub(crate) fn ends(
     alloc: Global,
-    used: &Triples,
+    uses: &[(u64, u64, u64)],
     defined: &Triples,
     edges: &Triples,
 ) -> Result<Pairs, Memory>
     requires { spec.IsNarrow edges.now }
-    ensures { IfOk result (λ ends. AreEnds used.now defined.now edges.now ends) }
+    ensures { IfOk result (λ ends. AreEnds (map name_first uses.now) defined.now edges.now ends) }
 {
     let mut spread = Spread {
         starts: Pairs::new(alloc),
         ends: Pairs::new(alloc),
     };
-    seed(&mut spread.starts, used.as_slice(), defined)?;
+    seed(&mut spread.starts, uses, defined)?;
     let mut done = 0;
     while done < spread.starts.len() {
         let (b, x) = spread.starts.at(done);

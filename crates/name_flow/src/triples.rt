@@ -1,6 +1,7 @@
 //! Numbers that are looked up by two others, in a sorted list.
 ghost use Rattle.std.specs.Prelude.{◌≡◌, ◌≤◌, true, false, length};
 ghost use Rattle.std.specs.List.Sorted.{IsPartitionPoint};
+ghost use Rattle.name_flow.specs.code.Runs.{in_run};
 ghost use Rattle.name_flow.specs.code.Triples.{next, holds, is_below, Ascends, NextHolds, Sorts};
 
 use std::marker::Model;
@@ -32,6 +33,14 @@ impl Triples {
         Triples { items }
     }
 
+    /// Triples that are in order. It takes no memory.
+    pub(crate) fn of(items: Vec<(u64, u64, u64)>) -> Triples
+        requires { Ascends items.items }
+        ensures { result ≡ items.items }
+    {
+        Triples { items }
+    }
+
     /// The least number from `c` on of a triple of `a` and `b`. It takes no memory.
     pub(crate) fn next(&self, a: u64, b: u64, c: u64) -> Option<u64>
         ensures value { result ≡ next self.now a b c }
@@ -60,19 +69,24 @@ impl Triples {
         }
     }
 
+    /// Whether the block `b` is in a run of the name `x`, where the triples are runs. It takes no memory.
+    pub(crate) fn in_run(&self, x: u64, b: u64) -> bool
+        ensures { result ≡ in_run self.now x b }
+    {
+        let items = self.items.as_slice();
+        let start = start(items, x, b, 0);
+        if start == items.len() {
+            return false;
+        }
+        let run = &items[start];
+        run.0 == x && run.2 <= b
+    }
+
     /// The triples in order.
     pub(crate) fn as_slice(&self) -> &[(u64, u64, u64)]
         ensures { result.now ≡ self.now }
     {
         self.items.as_slice()
-    }
-
-    /// The triples as a `Vec`. It takes no memory.
-    pub(crate) fn into_vec(self) -> Vec<(u64, u64, u64)>
-        ensures { result.items ≡ self }
-    {
-        let Triples { items } = self;
-        items
     }
 }
 

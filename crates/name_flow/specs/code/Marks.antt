@@ -63,12 +63,3 @@ phis_used blocks es b (phi ∷ phis) = entries_used blocks es b phi.entries ++ p
 
 abbrev pub block_phis_used : List Block → List Triple → ℕ → Block → List Triple
 block_phis_used blocks es b block = phis_used blocks es b block.phis
-
--- a name that is live at the end of a block is used at its terminator
-abbrev pub end_used_at : Option Block → ℕ × ℕ → List Triple
-end_used_at None p = []
-end_used_at (Some block) p = (p.0, p.1, end_index block) ∷ []
-
-abbrev pub ends_used : List Block → List (ℕ × ℕ) → List Triple
-ends_used blocks [] = []
-ends_used blocks (p ∷ ps) = end_used_at (slice_get blocks p.0) p ++ ends_used blocks ps

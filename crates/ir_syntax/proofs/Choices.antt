@@ -1,6 +1,6 @@
 -- A choice between two productions, of which one is read by hand.
 use Rattle.std.specs.Prelude.{Result}
-use Rattle.std.proofs.Common.{◌≡◌, Bool, true, false, ◌||◌, List, refl, sym, ap, ◌∙◌}
+use Rattle.std.proofs.Common.{◌≡◌, Bool, true, false, List, refl, sym, ◌∙◌}
 use Rattle.grammar.specs.declared.cursor.Cursor.{Cursor}
 use Rattle.grammar.specs.declared.cursor.Halt.{Halt}
 use Rattle.grammar.specs.Grammar.{Alphabet, Grammar, alt, as_tree, begins_with}

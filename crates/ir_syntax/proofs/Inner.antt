@@ -1,10 +1,9 @@
 -- No item of a module text takes the end of the text, or the token that stands where it goes on with none.
 use Rattle.std.proofs.Common.{◌≡◌, ℕ, zero, suc, Bool, false, true, List, [], ◌∷◌, ◌++◌, refl, rules}
-use Rattle.grammar.specs.Grammar.{Grammar, dep, grow, listed, preceded, ignored}
+use Rattle.grammar.specs.Grammar.{Grammar, dep, listed, preceded, ignored}
 use Rattle.grammar.specs.LookAhead.{apart}
 use Rattle.ir_values.specs.declared.int.Width.{Width}
 use Rattle.ir_values.specs.declared.int.Width.TheVariants as width
-use Rattle.ir_values.specs.declared.int.Flags.{Flags}
 use Rattle.ir_values.specs.declared.ty.Ty.{Ty}
 use Rattle.ir_values.specs.declared.ty.Ty.TheVariants as ty
 use Rattle.ir_tokens.specs.declared.kind.Kind.{Kind}

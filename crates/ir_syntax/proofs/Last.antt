@@ -1,6 +1,6 @@
 -- The last token of a text, and the token at which its first fault stands.
 use Rattle.std.specs.Prelude.{nat_eq}
-use Rattle.std.proofs.Common.{◌≡◌, ℕ, ◌+◌, ◌<◌, Bool, true, false, ◌||◌, Option, Some, None, List, [], ◌∷◌, ◌++◌, length, map, slice_get, inl, inr, refl, sym, ap, ◌∙◌, subst, arith}
+use Rattle.std.proofs.Common.{◌≡◌, ℕ, ◌<◌, Bool, true, false, ◌||◌, Option, Some, None, List, [], ◌∷◌, ◌++◌, length, map, slice_get, inl, inr, refl, sym, ap, ◌∙◌, subst, arith}
 use Rattle.grammar.specs.declared.fault.Fault.{Fault}
 use Rattle.grammar.specs.declared.fault.Fault.TheVariants.{Unexpected, Broken}
 use Rattle.grammar.specs.Grammar.{rep, is_in, has}
@@ -20,7 +20,6 @@ use Rattle.ir_tokens.specs.declared.kind.Kind.{Kind}
 use Rattle.ir_tokens.specs.declared.kind.Kind.TheVariants as kind
 use Rattle.ir_tokens.specs.declared.rule.Rule.{Rule}
 use Rattle.ir_tokens.specs.declared.token.Token.{Token}
-use Rattle.ir_grammar.specs.Forms.{◌◂◌}
 use Rattle.ir_grammar.specs.declared.tree.ItemSyntax.{ItemSyntax}
 use Rattle.ir_grammar.specs.Module.{item, module_text}
 use Rattle.ir_syntax.specs.Texts.{AreTokens}

@@ -1,5 +1,5 @@
 -- The answer to a text: it is right, and there is no other.
-use Rattle.std.proofs.Common.{◌≡◌, ℕ, ◌<◌, ◌↔◌, Option, Some, None, Result, Ok, Err, IfSome, List, [], ◌∷◌, ◌++◌, length, slice_get, refl, sym, ap, ◌∙◌, subst}
+use Rattle.std.proofs.Common.{◌≡◌, ℕ, ◌<◌, ◌↔◌, Option, Some, None, Result, Ok, Err, IfSome, List, ◌∷◌, ◌++◌, length, slice_get, refl, sym, ap, ◌∙◌, subst}
 use Rattle.grammar.specs.declared.fault.Fault.{Fault}
 use Rattle.grammar.specs.Language.{Derives, Misread, Answer, Holds}
 use Rattle.grammar.specs.Laws.{HoldsOnce}
@@ -14,7 +14,7 @@ use Rattle.ir_grammar.specs.declared.tree.ItemSyntax.{ItemSyntax}
 use Rattle.ir_grammar.specs.Module.{module_text}
 use Rattle.ir_syntax.specs.declared.fault.SyntaxFault.{SyntaxFault}
 use Rattle.ir_syntax.specs.Refusals.{code_of}
-use Rattle.ir_syntax.specs.Texts.{HasTree, AreTokens, IsTold, HasFault, IsAnswer, HasOneAnswer}
+use Rattle.ir_syntax.specs.Texts.{HasTree, AreTokens, HasFault, IsAnswer, HasOneAnswer}
 use Rattle.ir_syntax.proofs.Last.{seam_same, Stands, text_ends, broken_has_no_tree, fault_stands, stands_within, stands_read}
 
 -- the tokens of a text as they are scanned, and what is wrong where it goes on with none

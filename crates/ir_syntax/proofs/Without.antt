@@ -1,6 +1,6 @@
 -- Kinds of tokens that no production of a grammar takes: no token of its viable prefixes is of them.
-use Rattle.std.proofs.Common.{◌≡◌, Bool, true, false, Option, Some, None, List, [], ◌∷◌, ◌++◌, inl, inr, refl, sym, subst}
-use Rattle.grammar.specs.Grammar.{Alphabet, Grammar, nothing, tok, seq, alt, opt, rep, as_tree, dep, grow, marked, has, is_in}
+use Rattle.std.proofs.Common.{◌≡◌, true, false, Option, Some, None, List, [], ◌∷◌, ◌++◌, inl, inr, sym, subst}
+use Rattle.grammar.specs.Grammar.{Alphabet, Grammar, nothing, tok, seq, alt, opt, rep, as_tree, dep, grow, marked, has}
 use Rattle.grammar.specs.LookAhead.{apart}
 use Rattle.grammar.specs.Language.{Sentence, many, steps, last_of, Derives, Fine, one, Front}
 use Rattle.grammar.proofs.Basics.{apart_one, true_false}

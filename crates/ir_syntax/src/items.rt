@@ -48,7 +48,10 @@ fn metadata<'a>(alloc: Global, cursor: &mut Cursor<'a, Token>) -> Result<ItemSyn
 
 /// A function or metadata.
 #[tactic(auto, unfolding(ir_grammar::specs::Module::function, ir_grammar::specs::Functions::declaration, ir_grammar::specs::Functions::definition))]
-fn function_or_metadata<'a>(alloc: Global, cursor: &mut Cursor<'a, Token>) -> Result<ItemSyntax, Stop<'a>>
+fn function_or_metadata<'a>(
+    alloc: Global,
+    cursor: &mut Cursor<'a, Token>,
+) -> Result<ItemSyntax, Stop<'a>>
     ensures { Gives (alt spec.function spec.metadata) cursor.old cursor.new result }
 {
     if cursor.next_is_one_of(&[Kind::Declare, Kind::Define]) {

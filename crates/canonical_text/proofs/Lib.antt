@@ -1,0 +1,10 @@
+pub mod Facts
+pub mod FunctionsGood
+pub mod InstructionsGood
+pub mod Join
+pub mod MetadataGood
+pub mod OperandsGood
+pub mod Quotes
+pub mod TypesGood
+pub mod WholeGood
+pub mod Written

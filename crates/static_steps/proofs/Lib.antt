@@ -1,4 +1,5 @@
 pub mod SameValues
+mod StepKinds
 mod WorkedCalls
 mod WorkedIntegers
 pub mod WorkedModules

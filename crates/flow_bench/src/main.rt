@@ -1,16 +1,16 @@
 //! Builds the flow of functions of given sizes and asks it at each of their points, to be timed.
 //!
-//! Each line of standard input has two numbers, the blocks of a function and the instructions of
-//! each block. The function is a chain of blocks in which each instruction adds the name before it
-//! and the name 0. The line that is written has the two numbers and at how many points one of these
-//! two names is live.
+//! Each line of standard input has three numbers: the blocks of a function, the instructions of each
+//! block, and how many more names the first block defines and the last one uses. The function is a
+//! chain of blocks in which each instruction adds the name before it and the name 0. The line that is
+//! written has the three numbers and at how many points one of these two names is live.
 #![tactic(auto)]
 
 use ir_module::{
     Attrs, Block, Blocks, Function, Functions, Inst, InstKind, Insts, Locals, Module, Operand,
     Phis, Point, Term,
 };
-use ir_values::{BinOp, BlockId, Flags, FuncId, LocalId, Memory, Name, Seq, Ty, Width};
+use ir_values::{BinOp, BlockId, Conv, Flags, FuncId, LocalId, Memory, Name, Seq, Ty, Width};
 use name_flow::Flow;
 use std::alloc::Global;
 use std::io;
@@ -45,28 +45,65 @@ fn sum(n: u32, b: u32, i: u32) -> Inst {
     }
 }
 
-fn block(alloc: Global, n: u32, b: u32, term: Term) -> Result<Block, Memory> {
+/// The sizes of a function: blocks, instructions of each, and names that live over all blocks.
+#[derive(Clone, Copy)]
+struct Sizes {
+    blocks: u32,
+    insts: u32,
+    names: u32,
+}
+
+/// A name that the first block defines and the last one uses.
+fn kept(i: u32) -> LocalId {
+    LocalId(u64::from(i).wrapping_add(1 << 40))
+}
+
+/// Adds `names` instructions that define the kept names, or use them.
+fn push_kept(insts: &mut Insts, names: u32, uses: bool) -> Result<(), Memory> {
+    for i in 0..names {
+        let mut inst = sum(0, 0, 0);
+        if uses {
+            inst.what = InstKind::Convert(
+                Conv::ZExt,
+                Ty::Int(Width::W32),
+                Operand::Local(kept(i)),
+                Ty::Int(Width::W64),
+            );
+        }
+        inst.result = Some(if uses { LocalId(1 << 41) } else { kept(i) });
+        insts.push(inst)?;
+    }
+    Ok(())
+}
+
+fn block(alloc: Global, sizes: Sizes, b: u32) -> Result<Block, Memory> {
     let mut insts = Insts::new(alloc);
-    for i in 0..n {
-        insts.push(sum(n, b, i))?;
+    let last = b.saturating_add(1) == sizes.blocks;
+    if b == 0 {
+        push_kept(&mut insts, sizes.names, false)?;
+    }
+    for i in 0..sizes.insts {
+        insts.push(sum(sizes.insts, b, i))?;
+    }
+    if last {
+        push_kept(&mut insts, sizes.names, true)?;
     }
     Ok(Block {
         name: Name::Number(b),
         phis: Phis::new(alloc),
         insts,
-        term,
+        term: if last {
+            Term::RetVoid
+        } else {
+            Term::Br(BlockId(b.saturating_add(1)))
+        },
     })
 }
 
-fn blocks(alloc: Global, count: u32, n: u32) -> Result<Blocks, Memory> {
+fn blocks(alloc: Global, sizes: Sizes) -> Result<Blocks, Memory> {
     let mut blocks = Blocks::new(alloc);
-    for b in 0..count {
-        let term = if b.saturating_add(1) < count {
-            Term::Br(BlockId(b.saturating_add(1)))
-        } else {
-            Term::RetVoid
-        };
-        blocks.push(block(alloc, n, b, term)?)?;
+    for b in 0..sizes.blocks {
+        blocks.push(block(alloc, sizes, b)?)?;
     }
     Ok(blocks)
 }
@@ -105,29 +142,35 @@ fn live_in_block(flow: &Flow, n: u32, b: u32) -> u64 {
     live
 }
 
-fn live_points(alloc: Global, count: u32, n: u32) -> Result<u64, Memory> {
-    let flow = flow_of(alloc, blocks(alloc, count, n)?)?;
+fn live_points(alloc: Global, sizes: Sizes) -> Result<u64, Memory> {
+    let flow = flow_of(alloc, blocks(alloc, sizes)?)?;
     let mut live = 0u64;
-    for b in 0..count {
-        live = live.saturating_add(live_in_block(&flow, n, b));
+    for b in 0..sizes.blocks {
+        live = live.saturating_add(live_in_block(&flow, sizes.insts, b));
     }
     Ok(live)
 }
 
-fn sizes(line: &str) -> Option<(u32, u32)> {
-    let (count, n) = line.split_once(' ')?;
-    Some((count.parse::<u32>().ok()?, n.parse::<u32>().ok()?))
+fn parse_sizes(line: &str) -> Option<Sizes> {
+    let (blocks, rest) = line.split_once(' ')?;
+    let (insts, names) = rest.split_once(' ')?;
+    Some(Sizes {
+        blocks: blocks.parse::<u32>().ok()?,
+        insts: insts.parse::<u32>().ok()?,
+        names: names.parse::<u32>().ok()?,
+    })
 }
 
 fn main(rt: HostRuntime) -> io::Result<()> {
     for line in rt.lines(rt.alloc()) {
         let line = line?;
-        let Some((count, n)) = sizes(line.as_str()) else {
-            println!(rt; "two numbers are wanted")?;
+        let line = line.as_str();
+        let Some(sizes) = parse_sizes(line) else {
+            println!(rt; "three numbers are wanted")?;
             continue;
         };
-        match live_points(rt.alloc(), count, n) {
-            Ok(live) => println!(rt; "{count} {n} {live}")?,
+        match live_points(rt.alloc(), sizes) {
+            Ok(live) => println!(rt; "{line} {live}")?,
             Err(Memory) => println!(rt; "out of memory")?,
         }
     }

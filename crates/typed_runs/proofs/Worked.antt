@@ -37,4 +37,4 @@ is-typed = typed three_turns limit no-fault
 
 three-turns-run : NeverStuck → AlwaysRuns three_turns
 unfolding NeverStuck
-three-turns-run law = law three_turns limit is-numbered is-typed
+three-turns-run law answers n = (law three_turns limit is-numbered is-typed answers n).run

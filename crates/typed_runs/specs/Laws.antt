@@ -1,5 +1,5 @@
 -- What admission gives.
-use Rattle.std.specs.Prelude.{ℕ, List}
+use Rattle.std.specs.Prelude.{◌≡◌, ℕ, List}
 use Rattle.backend_api.specs.declared.operation.Answer.{Answer}
 use Rattle.backend_api.specs.declared.operation.Event.{Event}
 use Rattle.ir_module.specs.declared.tree.Module.{Module}
@@ -7,7 +7,7 @@ use Rattle.ir_module.specs.Numbered.{Numbered}
 use Rattle.output_records.specs.declared.record.Record.{Record}
 use Rattle.qir_meaning.specs.Apart.{KeepsApart, StaysBelow}
 use Rattle.qir_meaning.specs.Naming.{fixed_naming}
-use Rattle.qir_meaning.specs.Runs.{RunEnd, Runs, AlwaysRuns}
+use Rattle.qir_meaning.specs.Runs.{RunEnd, Runs, HasRun}
 use Rattle.type_check.specs.Faults.{Typed}
 use Rattle.type_check.specs.Required.{required_qubits, required_results}
 use Rattle.typed_runs.specs.Fits.{FitsAlways, LabelsIn}
@@ -17,13 +17,26 @@ unfoldable pub InvariantHolds : Type 0
 InvariantHolds =
     (m : Module) (limit : ℕ) → Numbered m → Typed m limit → FitsAlways m (required_qubits m limit) (required_results m limit)
 
--- so it has a run for every list of answers and every bound: no instruction is without a meaning
+-- there is a run with these answers and this bound, and no other
+pub record HasExactlyOneRun (m : Module) (answers : List Answer) (n : ℕ) : Type 0 where
+  pub run : HasRun m answers n
+  pub only : (es es' : List Event) (rs rs' : List Record) (e e' : RunEnd)
+      → Runs m answers n es rs e
+      → Runs m answers n es' rs' e'
+      → (es ≡ es') × (rs ≡ rs') × (e ≡ e')
+
+-- so it has exactly one run for every list of answers and every bound: no instruction is without a meaning
 unfoldable pub NeverStuck : Type 0
-NeverStuck = (m : Module) (limit : ℕ) → Numbered m → Typed m limit → AlwaysRuns m
+NeverStuck =
+    (m : Module) (limit : ℕ) → Numbered m → Typed m limit → (answers : List Answer) (n : ℕ) → HasExactlyOneRun m answers n
 
 -- its runs name fixed numbers below the required ones alone
 unfoldable pub NamesRequired : Type 0
-NamesRequired = (m : Module) (limit : ℕ) → Numbered m → Typed m limit → StaysBelow m (required_qubits m limit) (required_results m limit)
+NamesRequired =
+    (m : Module) (limit : ℕ)
+    → Numbered m
+    → Typed m limit
+    → StaysBelow m (required_qubits m limit) (required_results m limit)
 
 -- so the fixed naming keeps the handles of its runs apart
 unfoldable pub FixedNamingFits : Type 0

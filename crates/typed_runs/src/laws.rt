@@ -8,7 +8,7 @@ ghost use Rattle.typed_runs.specs.Laws.{
 };
 
 use ir_values::laws::{class_tells_types, words_tell_types};
-use qir_meaning::fixed_naming_keeps_apart;
+use qir_meaning::{fixed_naming_keeps_apart, modules_have_one_run};
 
 /// The whole states of a module without faults fit at the start and after each instruction: values have
 /// the types of their names, frames that wait fit their calls, and numbers are in range.
@@ -19,11 +19,12 @@ pub fn admitted_modules_keep_the_invariant()
     words_tell_types();
 }
 
-/// A module without faults has a run for every list of answers and every bound.
+/// A module without faults has exactly one run for every list of answers and every bound.
 pub fn admitted_modules_run()
     ensures { NeverStuck }
 {
     admitted_modules_keep_the_invariant();
+    modules_have_one_run();
 }
 
 /// The runs of a module without faults name fixed numbers below the required ones alone.

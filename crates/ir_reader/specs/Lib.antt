@@ -1,7 +1,6 @@
-pub mod First
-pub mod FirstText
-pub mod FirstTree
-pub mod Heads
-pub mod Lines
-pub mod Parses
-pub mod Parts
+pub mod code
+pub mod Codes
+pub mod Spelling
+pub mod Misreading
+pub mod Answers
+pub mod Laws

@@ -1,21 +1,14 @@
-//! Reading module texts. For now it reads the texts of one block that the specification `First`
-//! describes, and refuses every other.
+//! The module that a text spells, with the places of its parts, or the first fault of the text.
 #![tactic(auto)]
 
-mod body;
-mod line;
-mod lines;
-mod names;
-mod one_block;
+mod bytes;
+mod laws;
 mod parsed;
-mod places;
-mod program;
-mod scan;
-mod tree;
+mod reading;
 
-pub use line::{Gate, Line, Qubit};
-pub use one_block::read;
+pub use laws::{one_answer, places_are_of_spots};
 pub use parsed::{Parsed, ReadCode, ReadStop};
+pub use reading::read;
 
 #[cfg(test)]
 mod tests;

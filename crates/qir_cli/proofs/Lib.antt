@@ -9,11 +9,11 @@ pub mod Insts
 mod Moves
 pub mod OneBlocks
 pub mod Places
-pub mod ReadBlocks
 pub mod Reading
 pub mod Replying
 pub mod Sending
 mod Source
+pub mod Spots
 pub mod Stages
 pub mod WholeText
 mod Worked

@@ -5,12 +5,13 @@ use Rattle.ir_module.specs.declared.tree.Module.{Module}
 use Rattle.ir_reader.specs.declared.parsed.Parsed.{Parsed}
 use Rattle.ir_reader.specs.declared.parsed.ReadStop.{ReadStop}
 use Rattle.ir_reader.specs.declared.parsed.ReadStop.TheVariants as read
-use Rattle.ir_reader.specs.Parses.{MayStopWith}
+use Rattle.ir_reader.specs.Answers.{MayStopWith}
+use Rattle.ir_reader.specs.Laws.{OneAnswer}
 use Rattle.ir_values.specs.declared.memory.Memory.{Memory as NoMemory}
 use Rattle.qir_cli.specs.BaseText.{base_text}
 use Rattle.qir_cli.specs.code.Stops.{Meets, stop_of}
 use Rattle.qir_cli.specs.declared.command.Command.{Command}
-use Rattle.qir_cli.specs.declared.command.Command.TheVariants.{LowerBase}
+use Rattle.qir_cli.specs.declared.command.Command.TheVariants.{Print, LowerBase}
 use Rattle.qir_cli.specs.declared.refusal.Fault.TheVariants.{TooLong, Lower}
 use Rattle.qir_cli.specs.declared.refusal.LowerCode.TheVariants.{FirstPath, Budget}
 use Rattle.qir_cli.specs.declared.refusal.Refusal.{Refusal}
@@ -20,12 +21,12 @@ use Rattle.qir_cli.specs.declared.reply.Reply.{Reply}
 use Rattle.qir_cli.specs.declared.status.Status.TheVariants.{Done}
 use Rattle.qir_cli.specs.Laws.{HasOneText, RepliesAreOne, RepliesExist}
 use Rattle.qir_cli.specs.OneBlock.{one_block}
-use Rattle.qir_cli.specs.Reading.{Reads}
+use Rattle.qir_cli.specs.Reading.{Reads, ReadsAs}
 use Rattle.qir_cli.specs.Refusals.{at_start}
-use Rattle.qir_cli.specs.Replies.{ComesTo, instructions, limit, Lowers, LowersBase, LowersParsed, LowersText, place_in, refused, Replies, reply_of, within_budget, within_limit}
+use Rattle.qir_cli.specs.Replies.{ComesTo, Does, DoesText, instructions, limit, Lowers, LowersBase, place_in, printed, refused, Replies, reply_of, within_budget, within_limit}
 use Rattle.qir_cli.specs.Stages.{Is, Then, refuses, leads_on, AtMostOne, AtLeastOne}
 use Rattle.qir_cli.proofs.BaseBehaviour.{lowered-is}
-use Rattle.qir_cli.proofs.Reading.{reads-one, refused-misreads}
+use Rattle.qir_cli.proofs.Reading.{reads-one, reads-some, refused-misreads}
 use Rattle.qir_cli.proofs.Stages.{is-one, is-some, never-both, same-given, then-one, then-some}
 use Rattle.ir_module.specs.Entry.{Entry}
 
@@ -61,39 +62,34 @@ lowers-some : (budget : ℕ) (parsed : Parsed) (e : Entry) → Is (within_budget
 lowers-some budget parsed e h =
     (Ok (record { status = Done; text = base_text parsed.module e.function }), lowers-replies budget parsed e _ (sym h) refl refl)
 
-parsed-one : (budget : ℕ) (parsed : Parsed) → AtMostOne (LowersParsed budget parsed)
-parsed-one budget parsed = then-one (Is (within_budget budget parsed (one_block parsed.module))) (Lowers budget parsed.module) (is-one _) (lowers-one budget parsed.module)
+does-one : (command : Command) (parsed : Parsed) → HasOneText command → AtMostOne (Does command parsed)
+does-one Print parsed _ = is-one _
+does-one (LowerBase budget) parsed _ =
+    then-one (Is (within_budget budget parsed (one_block parsed.module))) (Lowers budget parsed.module) (is-one _) (lowers-one budget parsed.module)
 
-parsed-some : (budget : ℕ) (parsed : Parsed) → AtLeastOne (LowersParsed budget parsed)
-parsed-some budget parsed =
+does-some : (command : Command) (parsed : Parsed) → AtLeastOne (Does command parsed)
+does-some Print parsed = is-some _
+does-some (LowerBase budget) parsed =
     then-some (Is (within_budget budget parsed (one_block parsed.module))) (Lowers budget parsed.module) (is-some _) (lowers-some budget parsed)
 
-text-one : (budget : ℕ) (bytes : List ℕ) → AtMostOne (LowersText budget bytes)
-text-one budget bytes = then-one (Reads bytes) (LowersParsed budget) (reads-one bytes) (parsed-one budget)
+module _ (one : OneAnswer) where
+  text-one : (command : Command) (text : List ℕ) → HasOneText command → AtMostOne (DoesText command text)
+  text-one command text has = then-one (Reads text) (Does command) (reads-one one text) (λ parsed. does-one command parsed has)
 
-text-some : (budget : ℕ) (bytes : List ℕ) → AtLeastOne (Reads bytes) → AtLeastOne (LowersText budget bytes)
-text-some budget bytes reads = then-some (Reads bytes) (LowersParsed budget) reads (λ parsed _. parsed-some budget parsed)
+  text-some : (command : Command) (text : List ℕ) → AtLeastOne (DoesText command text)
+  text-some command text = then-some (Reads text) (Does command) (reads-some one text) (λ parsed _. does-some command parsed)
 
--- what comes through the limit are the bytes themselves
-pub within-same : (bytes text : List ℕ) → within_limit bytes ≡ Ok text → bytes ≡ text
-within-same bytes text h = by (nat_le (length bytes) limit) h
-  where
-    by : (b : Bool) → (if b then Ok bytes else Err (at_start TooLong)) ≡ Ok text → bytes ≡ text
-    by true h = same-given bytes text h
-    by false h = never-both text (at_start TooLong) (sym h)
+  comes-one : (command : Command) (bytes : List ℕ) → HasOneText command → AtMostOne (ComesTo command bytes)
+  comes-one command bytes has = then-one (Is (within_limit bytes)) (DoesText command) (is-one _) (λ text. text-one command text has)
 
-comes-one : (command : Command) (bytes : List ℕ) → HasOneText command → AtMostOne (ComesTo command bytes)
-comes-one (LowerBase budget) bytes _ = then-one (Is (within_limit bytes)) (LowersText budget) (is-one _) (text-one budget)
+  comes-some : (command : Command) (bytes : List ℕ) → AtLeastOne (ComesTo command bytes)
+  comes-some command bytes = then-some (Is (within_limit bytes)) (DoesText command) (is-some _) (λ text _. text-some command text)
 
-comes-some : (command : Command) (bytes : List ℕ) → AtLeastOne (Reads bytes) → AtLeastOne (ComesTo command bytes)
-comes-some (LowerBase budget) bytes reads =
-    then-some (Is (within_limit bytes)) (LowersText budget) (is-some _) (λ text h. text-some budget text (subst (λ t. AtLeastOne (Reads t)) (within-same bytes text (sym h)) reads))
+  pub replies-one : RepliesAreOne
+  replies-one command bytes has r s a b = a.2 ∙ ap reply_of (comes-one command bytes has a.0 b.0 a.1 b.1) ∙ sym b.2
 
-pub replies-one : RepliesAreOne
-replies-one command bytes has r s a b = a.2 ∙ ap reply_of (comes-one command bytes has a.0 b.0 a.1 b.1) ∙ sym b.2
-
-pub replies-some : RepliesExist
-replies-some command bytes reads = let c = comes-some command bytes reads in (reply_of c.0, (c.0, c.1, refl))
+  pub replies-some : RepliesExist
+  replies-some command bytes = let c = comes-some command bytes in (reply_of c.0, (c.0, c.1, refl))
 
 -- a text within the limit goes on to the next stage
 pub within-limit-is : (bytes : List ℕ) → length bytes ≤ limit → Is (within_limit bytes) (Ok bytes)
@@ -122,12 +118,16 @@ meets-memory ComesTo s e = subst (λ s. Meets ComesTo (Err s)) (sym e) tt
 pub meets-refused : {A B : Type 0} (first : Result A Refusal → Type 0) (second : A → Result B Refusal → Type 0) (why : Refusal) (s : Stop) → first (Err why) → s ≡ stop.Refused why → Meets (Then first second) (Err s)
 meets-refused first second why s f e = subst (λ s. Meets (Then first second) (Err s)) (sym e) (refuses why f)
 
-pub meets-limit : (budget : ℕ) (bytes : List ℕ) → length bytes ≤ limit → (r : Result Reply Stop) → Meets (LowersText budget bytes) r → Meets (LowersBase budget bytes) r
-meets-limit budget bytes short r m = meets-then (Is (within_limit bytes)) (LowersText budget) bytes (within-limit-is bytes short) r m
+pub meets-limit : (command : Command) (bytes : List ℕ) → length bytes ≤ limit → (r : Result Reply Stop) → Meets (DoesText command bytes) r → Meets (ComesTo command bytes) r
+meets-limit command bytes short r m = meets-then (Is (within_limit bytes)) (DoesText command) bytes (within-limit-is bytes short) r m
 
-pub meets-stopped : (budget : ℕ) (bytes : List ℕ) (e : ReadStop) (s : Stop) → MayStopWith bytes e → s ≡ stop_of e → Meets (LowersText budget bytes) (Err s)
-meets-stopped budget bytes (read.Refused code at) s may e = meets-refused (Reads bytes) (LowersParsed budget) _ s (refused-misreads bytes code at may) e
-meets-stopped budget bytes read.Memory s may e = meets-memory (LowersText budget bytes) s e
+-- what a command does with a module that was read
+pub meets-does : (command : Command) (bytes : List ℕ) → length bytes ≤ limit → (parsed : Parsed) → ReadsAs bytes parsed → (r : Result Reply Stop) → Meets (Does command parsed) r → Meets (ComesTo command bytes) r
+meets-does command bytes short parsed reads r m = meets-limit command bytes short r (meets-then (Reads bytes) (Does command) parsed reads r m)
+
+pub meets-stopped : (command : Command) (bytes : List ℕ) (e : ReadStop) (s : Stop) → MayStopWith bytes e → s ≡ stop_of e → Meets (DoesText command bytes) (Err s)
+meets-stopped command bytes (read.Refused code at) s may e = meets-refused (Reads bytes) (Does command) _ s (refused-misreads bytes code at may) e
+meets-stopped command bytes read.Memory s may e = meets-memory (DoesText command bytes) s e
 
 pub ok-replies : (command : Command) (bytes : List ℕ) (reply : Reply) → ComesTo command bytes (Ok reply) → Replies command bytes reply
 ok-replies command bytes reply c = (Ok reply, c, refl)

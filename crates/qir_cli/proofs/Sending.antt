@@ -3,13 +3,16 @@ use Rattle.std.proofs.Common.{◌≡◌, ◌∙◌, ℕ, ◌+◌, ◌<◌, List,
 use Rattle.std.specs.Prelude.{Option, None, Some, Result, Ok, Err, IfOk, IfSome}
 use Rattle.std.specs.Option.{option_map}
 use Rattle.std.proofs.lemmas.List.{take-append-drop, length-replicate, length-take}
+use Rattle.ir_module.specs.declared.tree.Module.{Module}
+use Rattle.ir_module.specs.Entry.{Entry}
+use Rattle.ir_reader.specs.declared.parsed.Parsed.{Parsed}
 use Rattle.ir_values.specs.Counts.{Rose}
 use Rattle.ir_values.specs.declared.memory.Memory.{Memory as NoMemory}
 use Rattle.qir_ports.specs.Known.{GivesTooMany, GivesUpTo}
 use Rattle.qir_cli.specs.code.Stops.{Writes, whole, in_part, Sends}
 use Rattle.qir_cli.specs.Commands.{command_of}
 use Rattle.qir_cli.specs.declared.command.Command.{Command}
-use Rattle.qir_cli.specs.declared.command.Command.TheVariants.{LowerBase}
+use Rattle.qir_cli.specs.declared.command.Command.TheVariants.{Print, LowerBase}
 use Rattle.qir_cli.specs.declared.refusal.Fault.TheVariants.{TooLong}
 use Rattle.qir_cli.specs.declared.refusal.Refusal.{Refusal}
 use Rattle.qir_cli.specs.declared.reply.Reply.{Reply}
@@ -17,23 +20,24 @@ use Rattle.qir_cli.specs.declared.status.Status.{Status}
 use Rattle.qir_cli.specs.declared.status.Status.TheVariants.{Done, Refused, BadWords, Stopped, ReadFault, WriteFault, Memory}
 use Rattle.qir_cli.specs.Outcomes.{Answered, HasReply, IsAnswered, IsUnwritten, PartlyAnswered}
 use Rattle.qir_cli.specs.Refusals.{at_start}
-use Rattle.qir_cli.specs.Replies.{ComesTo, limit, Lowers, LowersText, Replies, reply_of, too_long, within_limit}
-use Rattle.qir_cli.specs.Stages.{Is, Then, refuses, leads_on}
+use Rattle.qir_cli.specs.Replies.{ComesTo, Does, limit, Lowers, Replies, reply_of, too_long, within_limit}
+use Rattle.qir_cli.specs.Stages.{refuses, leads_on}
 use Rattle.qir_cli.proofs.Replying.{too-long-is}
 
 -- what a command comes to has one of the statuses of replies
-lowers-answered : (budget : ℕ) (bytes : List ℕ) (end : Result Reply Refusal) → Then (Is (within_limit bytes)) (LowersText budget) end → IsAnswered (reply_of end).status
-lowers-answered budget bytes end (refuses why f) = tt
-lowers-answered budget bytes end (leads_on text end' f (refuses why g)) = tt
-lowers-answered budget bytes end (leads_on text end' f (leads_on parsed end'' g (refuses why h))) = tt
-lowers-answered budget bytes end (leads_on text end' f (leads_on parsed end'' g (leads_on e end3 h last))) = by end3 last
-  where
-    by : (end : Result Reply Refusal) → Lowers budget parsed.module e end → IsAnswered (reply_of end).status
-    by (Ok reply) l = subst IsAnswered (sym l.status) tt
-    by (Err why) l = absurd l
+lowers-answered : (budget : ℕ) (m : Module) (e : Entry) (end : Result Reply Refusal) → Lowers budget m e end → IsAnswered (reply_of end).status
+lowers-answered budget m e (Ok reply) l = subst IsAnswered (sym l.status) tt
+lowers-answered budget m e (Err why) l = absurd l
+
+does-answered : (command : Command) (parsed : Parsed) (end : Result Reply Refusal) → Does command parsed end → IsAnswered (reply_of end).status
+does-answered Print parsed end d = subst (λ end. IsAnswered (reply_of end).status) (sym d) tt
+does-answered (LowerBase budget) parsed end (refuses why f) = tt
+does-answered (LowerBase budget) parsed end (leads_on e end' f last) = lowers-answered budget parsed.module e end' last
 
 comes-answered : (command : Command) (bytes : List ℕ) (end : Result Reply Refusal) → ComesTo command bytes end → IsAnswered (reply_of end).status
-comes-answered (LowerBase budget) bytes end c = lowers-answered budget bytes end c
+comes-answered command bytes end (refuses why f) = tt
+comes-answered command bytes end (leads_on text end' f (refuses why g)) = tt
+comes-answered command bytes end (leads_on text end' f (leads_on parsed end'' g does)) = does-answered command parsed end'' does
 
 pub replies-answered : (command : Command) (bytes : List ℕ) (reply : Reply) → Replies command bytes reply → IsAnswered reply.status
 replies-answered command bytes reply r = subst (λ r. IsAnswered r.status) (sym r.2) (comes-answered command bytes r.0 r.1)

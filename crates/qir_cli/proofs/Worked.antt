@@ -1,36 +1,91 @@
--- The worked text of two allocations, lowered.
-use Rattle.std.proofs.Common.{◌≡◌, refl, [], ◌∷◌}
+-- The worked module of two allocations, lowered.
+use Rattle.std.proofs.Common.{◌≡◌, refl, ℕ, ◌+◌, List, [], ◌∷◌, length}
 use Rattle.std.specs.Fmt.{digits}
-use Rattle.std.specs.Prelude.{codes, Some}
-use Rattle.ir_reader.specs.declared.line.Gate.TheVariants.{H}
-use Rattle.ir_reader.specs.declared.line.Line.TheVariants.{Allocate, Release, Apply}
-use Rattle.ir_reader.specs.declared.line.Qubit.TheVariants.{Named}
-use Rattle.ir_reader.specs.FirstText.{Program}
-use Rattle.ir_reader.specs.FirstTree.{tree_of, main_function}
-use Rattle.ir_values.specs.Calls.{class_of}
+use Rattle.std.specs.Prelude.{codes, Option, Some, None}
+use Rattle.ir_module.specs.declared.tree.Attr.{Attr}
+use Rattle.ir_module.specs.declared.tree.Callee.TheVariants as callee
+use Rattle.ir_module.specs.declared.tree.Function.{Function}
+use Rattle.ir_module.specs.declared.tree.Inst.{Inst}
+use Rattle.ir_module.specs.declared.tree.InstKind.TheVariants as kind
+use Rattle.ir_module.specs.declared.tree.Module.{Module}
+use Rattle.ir_module.specs.declared.tree.Operand.TheVariants as operand
+use Rattle.ir_module.specs.declared.tree.Term.TheVariants as term
+use Rattle.ir_module.specs.Entry.{entry_of}
+use Rattle.ir_values.specs.declared.ids.LocalId.{LocalId}
+use Rattle.ir_values.specs.declared.int.Width.TheVariants.{W64}
+use Rattle.ir_values.specs.declared.name.Name.{Name}
+use Rattle.ir_values.specs.declared.name.Name.TheVariants as name
+use Rattle.ir_values.specs.declared.ty.Ty.{Ty}
+use Rattle.ir_values.specs.declared.ty.Ty.TheVariants as ty
+use Rattle.ir_values.specs.declared.value.Value.TheVariants as value
+use Rattle.ir_values.specs.Calls.{class_of, rt, qis}
 use Rattle.qir_cli.specs.BaseText.{base_text, lines_text}
 use Rattle.qir_cli.specs.OneBlock.{one_block}
-use Rattle.ir_module.specs.Entry.{entry_of}
 
-unfoldable pub two_allocations : Program
-two_allocations = record {
-  qubits = 0;
-  lines =
-      Allocate (codes "a")
-      ∷ Apply H (Named (codes "a"))
-      ∷ Release (codes "a")
-      ∷ Allocate (codes "b")
-      ∷ Apply H (Named (codes "b"))
-      ∷ Release (codes "b")
+-- a declaration with parameters of these types, which are named by their numbers
+abbrev parameters : ℕ → List Ty → List (Name × Ty)
+parameters n [] = []
+parameters n (t ∷ ts) = (name.Number n, t) ∷ parameters (n + 1) ts
+
+abbrev declared : List ℕ → Ty → List Ty → Function
+declared n ret params = record { name = name.Text n; ret = ret; params = length params; locals = parameters 0 params; attrs = []; blocks = None }
+
+abbrev attribute : List ℕ → Option (List ℕ) → Attr
+attribute key value = record { key = key; value = value }
+
+abbrev local : ℕ → LocalId
+local x = record { 0 = x }
+
+-- the functions are numbered in text order, and `main` is 0
+abbrev allocates : ℕ → Inst
+allocates x = record { result = Some (local x); what = kind.Call ty.Qubit (callee.Func (record { 0 = 1 })) [] }
+
+abbrev takes : ℕ → ℕ → Inst
+takes f x = record { result = None; what = kind.Call ty.Void (callee.Func (record { 0 = f })) ((ty.Qubit, operand.Local (local x)) ∷ []) }
+
+abbrev releases : ℕ → Inst
+releases x = takes 2 x
+
+abbrev hadamard : ℕ → Inst
+hadamard x = takes 3 x
+
+abbrev pub main_function : Function
+main_function = record {
+  name = name.Text (codes "main");
+  ret = ty.Int W64;
+  params = 0;
+  locals = (name.Text (codes "a"), ty.Qubit) ∷ (name.Text (codes "b"), ty.Qubit) ∷ [];
+  attrs =
+      attribute (codes "entry_point") None
+      ∷ attribute (codes "required_num_qubits") (Some (codes "0"))
+      ∷ attribute (codes "required_num_results") (Some (codes "0"))
       ∷ [];
+  blocks = Some (record {
+    name = name.Text (codes "entry");
+    phis = [];
+    insts = allocates 0 ∷ hadamard 0 ∷ releases 0 ∷ allocates 1 ∷ hadamard 1 ∷ releases 1 ∷ [];
+    term = term.Ret (ty.Int W64) (operand.Const (value.Int (record { width = W64; bits = 0 })));
+  } ∷ []);
 }
 
--- its tree is one of one block
-is_one_block : one_block (tree_of two_allocations) ≡ Some (record { number = 0; function = main_function two_allocations })
+unfoldable pub two_allocations : Module
+two_allocations = record {
+  globals = [];
+  funcs =
+      main_function
+      ∷ declared (rt (codes "qubit_allocate")) ty.Qubit []
+      ∷ declared (rt (codes "qubit_release")) ty.Void (ty.Qubit ∷ [])
+      ∷ declared (qis (codes "h__body")) ty.Void (ty.Qubit ∷ [])
+      ∷ [];
+  flags = [];
+}
+
+-- it is a module of one block
+is_one_block : one_block two_allocations ≡ Some (record { number = 0; function = main_function })
 unfolding two_allocations digits class_of entry_of
 is_one_block = refl
 
-text : base_text (tree_of two_allocations) (main_function two_allocations)
+text : base_text two_allocations main_function
     ≡ lines_text (codes "%Qubit = type opaque"
     ∷ codes "%Result = type opaque"
     ∷ []

@@ -6,7 +6,7 @@ use Rattle.std.specs.Option.{option_map}
 use Rattle.ir_values.specs.Calls.{same_text}
 use Rattle.ir_values.specs.Decimals.{decimal_value}
 use Rattle.qir_cli.specs.declared.command.Command.{Command}
-use Rattle.qir_cli.specs.declared.command.Command.TheVariants.{LowerBase}
+use Rattle.qir_cli.specs.declared.command.Command.TheVariants.{Print, LowerBase}
 
 -- the bytes of the words
 abbrev pub texts_of : {Z : Type 0} → List (String Z) → List (List ℕ)
@@ -22,6 +22,7 @@ number_word least most word = in_limits least most (decimal_value word)
 
 -- the command that words are, compared exactly
 abbrev pub command_of : List (List ℕ) → Option Command
+command_of (name ∷ []) = if same_text name (codes "print") then Some Print else None
 command_of (name ∷ profile ∷ budget ∷ []) =
     if same_text name (codes "lower") && same_text profile (codes "base") then option_map LowerBase (number_word 1 10000 budget) else None
 command_of words = None

@@ -1,8 +1,7 @@
 -- The line of a refusal: the stage that refuses, the code of the fault, its line and column, and its name.
 use Rattle.std.specs.Prelude.{ℕ, List, ◌++◌, codes, decimal}
 use Rattle.ir_module.specs.declared.places.Place.{Place}
-use Rattle.ir_reader.specs.declared.parsed.ReadCode.{ReadCode}
-use Rattle.ir_reader.specs.declared.parsed.ReadCode.TheVariants as read
+use Rattle.ir_reader.specs.Codes as read
 use Rattle.qir_cli.specs.declared.refusal.Fault.{Fault}
 use Rattle.qir_cli.specs.declared.refusal.Fault.TheVariants.{TooLong, Read, Lower}
 use Rattle.qir_cli.specs.declared.refusal.LowerCode.{LowerCode}
@@ -14,12 +13,6 @@ stage_of TooLong = codes "input"
 stage_of (Read code) = codes "read"
 stage_of (Lower code) = codes "lower"
 
-abbrev pub read_number : ReadCode → ℕ
-read_number read.FirstPath = 13
-
-abbrev pub read_name : ReadCode → List ℕ
-read_name read.FirstPath = codes "FirstPath"
-
 abbrev pub lower_code : LowerCode → List ℕ
 lower_code lower.FirstPath = codes "13"
 lower_code lower.Budget = codes "U4"
@@ -30,12 +23,12 @@ lower_name lower.Budget = codes "Budget"
 
 abbrev pub code_of : Fault → List ℕ
 code_of TooLong = codes "1"
-code_of (Read code) = decimal (read_number code)
+code_of (Read code) = decimal (read.number_of code)
 code_of (Lower code) = lower_code code
 
 abbrev pub name_of : Fault → List ℕ
 name_of TooLong = codes "TooLong"
-name_of (Read code) = read_name code
+name_of (Read code) = read.name_of code
 name_of (Lower code) = lower_name code
 
 -- the parts stand with a tab between, and a line feed ends the line

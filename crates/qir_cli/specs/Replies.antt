@@ -5,11 +5,12 @@ use Rattle.ir_module.specs.declared.places.Spot.TheVariants.{At}
 use Rattle.ir_module.specs.declared.tree.Function.{Function}
 use Rattle.ir_module.specs.declared.tree.Module.{Module}
 use Rattle.ir_module.specs.Places.{place_of}
+use Rattle.ir_printer.specs.Canonical.{canonical}
 use Rattle.ir_reader.specs.declared.parsed.Parsed.{Parsed}
 use Rattle.qir_cli.specs.BaseText.{base_text}
 use Rattle.qir_cli.specs.BaseTree.{base_tree, naming_of}
 use Rattle.qir_cli.specs.declared.command.Command.{Command}
-use Rattle.qir_cli.specs.declared.command.Command.TheVariants.{LowerBase}
+use Rattle.qir_cli.specs.declared.command.Command.TheVariants.{Print, LowerBase}
 use Rattle.qir_cli.specs.declared.refusal.Fault.TheVariants.{TooLong, Lower}
 use Rattle.qir_cli.specs.declared.refusal.LowerCode.TheVariants.{FirstPath, Budget}
 use Rattle.qir_cli.specs.declared.refusal.Refusal.{Refusal}
@@ -58,18 +59,25 @@ Lowers budget m e (Ok reply) = RepliesLowered budget m e reply
 Lowers budget m e (Err why) = ⊥
 
 -- the stages of `lower base` once the text was read
-abbrev pub LowersParsed : ℕ → Parsed → Result Reply Refusal → Type 0
-LowersParsed budget parsed = Then (Is (within_budget budget parsed (one_block parsed.module))) (Lowers budget parsed.module)
+abbrev pub LowersBase : ℕ → Parsed → Result Reply Refusal → Type 0
+LowersBase budget parsed = Then (Is (within_budget budget parsed (one_block parsed.module))) (Lowers budget parsed.module)
 
-abbrev pub LowersText : ℕ → List ℕ → Result Reply Refusal → Type 0
-LowersText budget bytes = Then (Reads bytes) (LowersParsed budget)
+-- what `print` writes is the canonical text of the module
+abbrev pub printed : Module → Reply
+printed m = record { status = Done; text = canonical m }
 
-abbrev pub LowersBase : ℕ → List ℕ → Result Reply Refusal → Type 0
-LowersBase budget bytes = Then (Is (within_limit bytes)) (LowersText budget)
+-- what a command does with a module that was read, and the places of its spots
+abbrev pub Does : Command → Parsed → Result Reply Refusal → Type 0
+Does Print parsed = Is (Ok (printed parsed.module))
+Does (LowerBase budget) parsed = LowersBase budget parsed
+
+-- with a text within the limit
+abbrev pub DoesText : Command → List ℕ → Result Reply Refusal → Type 0
+DoesText command text = Then (Reads text) (Does command)
 
 -- what a command comes to: the first stage that refuses, or the reply
 abbrev pub ComesTo : Command → List ℕ → Result Reply Refusal → Type 0
-ComesTo (LowerBase budget) bytes = LowersBase budget bytes
+ComesTo command bytes = Then (Is (within_limit bytes)) (DoesText command)
 
 abbrev pub refused : Refusal → Reply
 refused why = record { status = Refused; text = refusal_line why }

@@ -7,6 +7,8 @@ use ir_values::parse_decimal;
 /// A command.
 #[derive(Clone, Copy, Debug, PartialEq, Eq)]
 pub enum Command {
+    /// `print`: writes the canonical text of a module.
+    Print,
     /// `lower base BUDGET`: lowers a module under the Base Profile, within a budget of instructions
     /// from 1 to 10,000.
     LowerBase { budget: u64 },
@@ -17,6 +19,13 @@ pub(crate) fn command_of(words: &[String]) -> Option<Command>
     ensures { result ≡ spec.command_of (spec.texts_of words.now) }
 {
     match words {
+        [name] => {
+            if name.as_str().as_bytes() == b"print".as_slice() {
+                Some(Command::Print)
+            } else {
+                None
+            }
+        }
         [name, profile, budget] => {
             if name.as_str().as_bytes() == b"lower".as_slice()
                 && profile.as_str().as_bytes() == b"base".as_slice()

@@ -12,6 +12,6 @@ mod reply;
 mod status;
 
 pub use command::Command;
-pub use laws::{replies_are_one, replies_exist, texts_are_of_one_block};
+pub use laws::{replies_are_one, replies_exist};
 pub use program::qir;
 pub use status::Status;

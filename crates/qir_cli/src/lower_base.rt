@@ -1,5 +1,5 @@
 //! The command `lower base`.
-ghost use Rattle.std.specs.Prelude.{◌≡◌, ◌<◌, ◌≤◌, ◌^◌, length};
+ghost use Rattle.std.specs.Prelude.{◌≡◌};
 ghost use Rattle.qir_cli.specs.code.OneBlockCode.{entry_of, found_of};
 ghost use Rattle.qir_cli.specs.code.Stops.{Meets};
 ghost use Rattle.qir_cli.specs.code.Placed.{Placed};
@@ -17,18 +17,10 @@ use ir_reader::Parsed;
 use ir_values::{BlockId, FuncId};
 use std::alloc::Global;
 
-/// Lowers the module that a text spells under the Base Profile, within a budget of instructions.
-pub(crate) fn lower_base(alloc: Global, budget: u64, text: &[u8]) -> Result<Reply, Stop>
-    requires { length text.now ≤ spec.limit }
-    ensures { Meets (spec.LowersBase budget text.now) result }
-{
-    let parsed = ir_reader::read(alloc, text)?;
-    lower_parsed(alloc, budget, &parsed)
-}
-
-fn lower_parsed(alloc: Global, budget: u64, parsed: &Parsed) -> Result<Reply, Stop>
+/// Lowers a module under the Base Profile, within a budget of instructions.
+pub(crate) fn lower_base(alloc: Global, budget: u64, parsed: &Parsed) -> Result<Reply, Stop>
     requires { Placed parsed.now }
-    ensures { Meets (spec.LowersParsed budget parsed.now) result }
+    ensures { Meets (spec.LowersBase budget parsed.now) result }
 {
     let roles = roles_of(alloc, &parsed.module)?;
     let found = one_block(alloc, &parsed.module, roles.as_slice())?;

@@ -1,13 +1,14 @@
 //! The replies of commands to texts.
-ghost use Rattle.std.specs.Prelude.{◌≡◌, ◌≤◌, length, IfOk};
+ghost use Rattle.std.specs.Prelude.{◌≡◌, ◌≤◌, length, IfOk, Ok as Gives};
 ghost use Rattle.qir_cli.specs.code.Stops.{Meets};
 ghost use Rattle.qir_cli.specs.Replies as spec;
-ghost use Rattle.qir_cli.specs.Stages.{Then};
+ghost use Rattle.qir_cli.specs.Stages.{Is};
 
 use crate::command::Command;
 use crate::lower_base::lower_base;
 use crate::refusal::{Fault, Refusal, Stop};
 use crate::status::Status;
+use ir_module::Module;
 use ir_values::{Bytes, Memory};
 use std::alloc::Global;
 
@@ -47,9 +48,21 @@ fn run(alloc: Global, command: Command, text: &[u8]) -> Result<Reply, Stop>
     requires { length text.now ≤ spec.limit }
     ensures { Meets (spec.ComesTo command text.now) result }
 {
+    let parsed = ir_reader::read(alloc, text)?;
     match command {
-        Command::LowerBase { budget } => lower_base(alloc, budget, text),
+        Command::Print => print_module(alloc, &parsed.module),
+        Command::LowerBase { budget } => lower_base(alloc, budget, &parsed),
     }
+}
+
+/// The canonical text of a module.
+fn print_module(alloc: Global, m: &Module) -> Result<Reply, Stop>
+    ensures { Meets (Is (Gives (spec.printed m.now))) result }
+{
+    Ok(Reply {
+        status: Status::Done,
+        text: ir_printer::print(alloc, m)?,
+    })
 }
 
 /// The reply to a longer text.

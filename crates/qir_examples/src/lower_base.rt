@@ -15,7 +15,7 @@ const RET: &str = "ret i64 0";
 
 const H: &str = "h__body(%Qubit*)";
 
-const FIRST_PATH: &[u8] = b"REFUSED\tread\t13\t1\t1\tFirstPath\n";
+const FIRST_PATH: &[u8] = b"REFUSED\tlower\t13\t1\t1\tFirstPath\n";
 
 fn lower(alloc: Global, budget: &str, text: &[u8]) -> Result<Outcome, Fail> {
     run(
@@ -136,7 +136,7 @@ fn many_gates_are_lowered_within_the_greatest_budget(rt: HostRuntime) -> Result<
 }
 
 #[test]
-fn other_texts_are_refused(rt: HostRuntime) -> Result<(), Fail> {
+fn other_modules_are_refused(rt: HostRuntime) -> Result<(), Fail> {
     let alloc = rt.alloc();
     let record = "call void @__quantum__rt__result_record_output(%Result* null, i8* null)";
     let one = "call void @__quantum__qis__h__body(%Qubit* inttoptr (i64 1 to %Qubit*))";
@@ -164,6 +164,25 @@ fn other_texts_are_refused(rt: HostRuntime) -> Result<(), Fail> {
         refused.written.as_slice(),
         b"REFUSED\tinput\t1\t1\t1\tTooLong\n".as_slice()
     );
+    Ok(())
+}
+
+/// The first fault of a text is told.
+#[test]
+fn faults_of_texts_are_told(rt: HostRuntime) -> Result<(), Fail> {
+    let alloc = rt.alloc();
+    let rows: [(&[u8], &[u8]); 2] = [
+        (b"%Qubi", b"REFUSED\tread\t5\t1\t6\tSyntax\n"),
+        (
+            b"declare void @f()\ndeclare void @f()\n",
+            b"REFUSED\tread\t6\t2\t14\tDuplicate\n",
+        ),
+    ];
+    for (text, line) in rows {
+        let refused = lower(alloc, "7", text)?;
+        assert_eq!(rt; refused.status, Status::Refused);
+        assert_eq!(rt; refused.written.as_slice(), line);
+    }
     Ok(())
 }
 

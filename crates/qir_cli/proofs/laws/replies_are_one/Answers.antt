@@ -2,4 +2,4 @@ use Rattle.qir_cli.proofs.laws.replies_are_one.Goals as goal
 use Rattle.qir_cli.proofs.Replying.{replies-one}
 
 pub returns : goal.returns
-returns c = replies-one
+returns c = replies-one c.one_answer.ensures

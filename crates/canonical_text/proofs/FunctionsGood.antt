@@ -1,12 +1,12 @@
 -- The parts of blocks and functions stand apart.
-use Rattle.std.proofs.Common.{◌≡◌, ℕ, ◌+◌, ◌^◌, ◌<◌, ◌≤◌, Bool, true, false, Option, None, Some, List, [], ◌∷◌, ◌++◌, length, refl, sym, ap, subst, arith}
+use Rattle.std.proofs.Common.{◌≡◌, ℕ, ◌+◌, ◌^◌, ◌<◌, ◌≤◌, Bool, true, false, Option, None, Some, List, [], ◌∷◌, ◌++◌, length, refl, subst, arith}
 use Rattle.std.specs.Prelude.{◌&&◌, nat_lt, codes, map, flat_map, take, decimal}
 use Rattle.std.specs.List.{list_all}
-use Rattle.std.proofs.lemmas.Bool.{and_parts, and_from, cond_both}
+use Rattle.std.proofs.lemmas.Bool.{and_parts, cond_both}
 use Rattle.std.proofs.lemmas.List.{length-append}
 use Rattle.ir_values.specs.declared.name.Name.{Name}
 use Rattle.ir_values.specs.declared.ty.Ty.{Ty}
-use Rattle.ir_text.specs.declared.tok.Tok.TheVariants.{Word, Label, Group}
+use Rattle.ir_text.specs.declared.tok.Tok.TheVariants.{Label, Group}
 use Rattle.ir_module.specs.Numbered.{operand_in_range, local_in_range, step_in_range}
 use Rattle.ir_module.specs.Operands.{step_operands, step_defines, step_blocks}
 use Rattle.ir_module.specs.Printable.{name_fits, step_fits}
@@ -19,16 +19,16 @@ use Rattle.ir_module.specs.declared.tree.Inst.{Inst}
 use Rattle.ir_module.specs.declared.tree.Module.{Module}
 use Rattle.ir_module.specs.declared.tree.Phi.{Phi}
 use Rattle.ir_parts.specs.Parts.{Part}
-use Rattle.ir_printer.specs.Functions.{indented, phi_line, inst_line, steps_parts, block_parts, further_block, blocks_parts, named_param, nameless_param, params_parts, name_parts, head_parts, declaration_parts, definition_head, definition_parts, body_parts, function_parts, function_section}
-use Rattle.ir_printer.specs.Groups.{same_attrs, number_from, with_list, groups_from, groups_of, group_use, group_token}
+use Rattle.ir_printer.specs.Functions.{indented, phi_line, inst_line, steps_parts, block_parts, further_block, blocks_parts, named_param, nameless_param, params_parts, name_parts, head_parts, definition_head, body_parts, function_section}
+use Rattle.ir_printer.specs.Groups.{same_attrs, number_from, with_list, groups_from, groups_of, group_use}
 use Rattle.ir_printer.specs.Instructions.{phi_parts, inst_parts, term_parts}
 use Rattle.ir_printer.specs.Operands.{local_token, global_token}
-use Rattle.ir_printer.specs.Pieces.{blank, indent, line_end, sign, word, listed}
+use Rattle.ir_printer.specs.Pieces.{blank, line_end, sign, listed}
 use Rattle.ir_printer.specs.Spellings.{label_spelling}
 use Rattle.ir_printer.specs.Types.{type_parts}
-use Rattle.canonical_text.proofs.Facts.{first_all, second_all, all_mapped, all_each, all_taken, all_both, all_weaker}
+use Rattle.canonical_text.proofs.Facts.{first_all, second_all, all_mapped, all_taken}
 use Rattle.canonical_text.proofs.InstructionsGood.{phi_good, inst_good, term_good}
-use Rattle.canonical_text.proofs.Join.{Good, Safe, AllGood, loosen, join, then_token, listed_good, all_good, lines_safe}
+use Rattle.canonical_text.proofs.Join.{Good, Safe, loosen, join, then_token, listed_good, all_good, lines_safe}
 use Rattle.canonical_text.proofs.OperandsGood.{Known, local_token_good, global_token_good}
 use Rattle.canonical_text.proofs.TypesGood.{type_good}
 use Rattle.canonical_text.proofs.Written.{label_written, group_written}

@@ -13,14 +13,13 @@ use Rattle.ir_values.specs.declared.int.Conv.TheVariants as conv
 use Rattle.ir_values.specs.declared.int.Flags.{Flags}
 use Rattle.ir_values.specs.declared.int.Pred.{Pred}
 use Rattle.ir_values.specs.declared.int.Pred.TheVariants as pred
-use Rattle.ir_values.specs.declared.int.Width.{Width}
 use Rattle.ir_values.specs.declared.name.Name.{Name}
 use Rattle.ir_values.specs.declared.ty.Ty.{Ty}
 use Rattle.ir_values.specs.declared.ty.Ty.TheVariants as ty
 use Rattle.ir_text.specs.declared.tok.Tok.TheVariants.{Word}
 use Rattle.ir_module.specs.Printable.{boolean, int_fits, operand_fits, value_type_fits, typed_fits, type_fits, kind_fits, term_fits, result_fits, has_entry, step_fits}
 use Rattle.ir_module.specs.Numbered.{type_passes, local_type_passes}
-use Rattle.ir_module.specs.Steps.{PhiAt, InstAt, TermAt}
+use Rattle.ir_module.specs.Steps.{PhiAt, InstAt}
 use Rattle.ir_module.specs.declared.tree.Callee.{Callee}
 use Rattle.ir_module.specs.declared.tree.Callee.TheVariants as callee
 use Rattle.ir_module.specs.declared.tree.Function.{Function}
@@ -36,10 +35,10 @@ use Rattle.ir_parts.specs.Parts.{Part}
 use Rattle.ir_parts.specs.Spaced.{is_written}
 use Rattle.ir_printer.specs.Pieces.{blank, sign, word, comma, equals, listed}
 use Rattle.ir_printer.specs.Types.{type_parts}
-use Rattle.ir_printer.specs.Operands.{local_part, block_part, int_part, operand_parts, typed_parts}
-use Rattle.ir_printer.specs.Instructions.{operation_word, predicate_word, conversion_word, flag_word, flags_parts, operation_parts, comparison_parts, conversion_parts, pair_parts, choices_parts, boolean_parts, callee_part, called_parts, argument_parts, arguments_parts, kind_parts, result_parts, inst_parts, type_of_local, local_type, entry_parts, entries_parts, phi_parts, target_parts, targets_parts, case_parts, cases_parts, table_parts, switched_parts, term_parts}
+use Rattle.ir_printer.specs.Operands.{block_part, int_part, operand_parts, typed_parts}
+use Rattle.ir_printer.specs.Instructions.{operation_word, predicate_word, conversion_word, flag_word, flags_parts, pair_parts, choices_parts, boolean_parts, callee_part, called_parts, argument_parts, arguments_parts, kind_parts, result_parts, inst_parts, type_of_local, entry_parts, entries_parts, phi_parts, target_parts, targets_parts, case_parts, cases_parts, table_parts, switched_parts, term_parts}
 use Rattle.canonical_text.proofs.Facts.{IsThere, there}
-use Rattle.canonical_text.proofs.Join.{Good, Safe, AllGood, join, then_token, with_comma, listed_good, all_good}
+use Rattle.canonical_text.proofs.Join.{Good, Safe, join, then_token, with_comma, listed_good, all_good}
 use Rattle.canonical_text.proofs.TypesGood.{type_good}
 use Rattle.canonical_text.proofs.OperandsGood.{Known, local_good, function_good, block_good, int_good, operand_good, typed_good}
 

@@ -1,11 +1,10 @@
 -- The parts of operands stand apart.
-use Rattle.std.proofs.Common.{◌≡◌, ℕ, ◌^◌, ◌<◌, ◌≤◌, Bool, true, false, Option, None, Some, List, [], ◌∷◌, ◌++◌, length, refl, sym, ap, subst, arith}
+use Rattle.std.proofs.Common.{◌≡◌, ℕ, ◌^◌, ◌<◌, ◌≤◌, true, false, Option, None, Some, List, [], ◌∷◌, ◌++◌, length, refl, sym, subst, arith}
 use Rattle.std.specs.Prelude.{◌&&◌, ◌==◌, nat_lt, codes, decimal, slice_get}
 use Rattle.std.specs.Fmt.{signed_decimal}
 use Rattle.std.specs.List.{list_all}
 use Rattle.std.proofs.lemmas.Bool.{and_parts, cond_both, eqb-true, ltb-true, false≢true}
-use Rattle.ir_values.specs.Double.{is_double}
-use Rattle.ir_values.specs.Int.{IntValue, signed}
+use Rattle.ir_values.specs.Int.{IntValue}
 use Rattle.ir_values.specs.Width.{bits_of}
 use Rattle.ir_values.specs.declared.ids.BlockId.{BlockId}
 use Rattle.ir_values.specs.declared.ids.FuncId.{FuncId}
@@ -33,7 +32,7 @@ use Rattle.ir_printer.specs.Spellings.{name_spelling}
 use Rattle.ir_printer.specs.Types.{type_parts}
 use Rattle.ir_printer.specs.Operands.{local_token, global_token, name_of_local, name_of_function, name_of_block, local_part, function_part, block_part, bit_part, int_of_width, int_part, address_parts, handle_parts, array_parts, index_parts, address_head, label_parts, label_of, value_parts, operand_parts, typed_parts}
 use Rattle.canonical_text.proofs.Facts.{At, all_at}
-use Rattle.canonical_text.proofs.Join.{Good, Safe, join, then_token, with_comma}
+use Rattle.canonical_text.proofs.Join.{Good, Safe, join, then_token}
 use Rattle.canonical_text.proofs.TypesGood.{type_good}
 use Rattle.canonical_text.proofs.Written.{local_written, global_written, natural_written, signed_written, signed_value, double_written}
 

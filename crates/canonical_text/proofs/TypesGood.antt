@@ -1,5 +1,5 @@
 -- The parts of types stand apart.
-use Rattle.std.proofs.Common.{◌≡◌, ℕ, zero, suc, true, false, List, [], ◌∷◌, ◌++◌, take, drop, refl}
+use Rattle.std.proofs.Common.{ℕ, zero, suc, false, List, [], ◌∷◌, ◌++◌, take, drop, refl}
 use Rattle.std.specs.Prelude.{codes}
 use Rattle.ir_values.specs.Types.{words_of}
 use Rattle.ir_values.specs.declared.int.Width.{Width}
@@ -9,7 +9,7 @@ use Rattle.ir_values.specs.declared.sig.TyWord.TheVariants as tyword
 use Rattle.ir_values.specs.declared.ty.Ty.{Ty}
 use Rattle.ir_parts.specs.Parts.{Part}
 use Rattle.ir_printer.specs.Pieces.{blank, sign, listed}
-use Rattle.ir_printer.specs.Types.{width_part, word_parts, pointer_parts, with_pointer, types_parts, first_type, type_parts}
+use Rattle.ir_printer.specs.Types.{width_part, pointer_parts, with_pointer, types_parts, first_type, type_parts}
 use Rattle.canonical_text.proofs.Join.{Good, AllGood, join, listed_good}
 
 width_good : (w : Width) → Good (width_part w ∷ [])

@@ -1,13 +1,12 @@
 -- The parts of a printable module stand apart.
-use Rattle.std.proofs.Common.{◌≡◌, ℕ, ◌+◌, ◌^◌, ◌<◌, ◌≤◌, Bool, true, false, Option, None, Some, List, [], ◌∷◌, ◌++◌, length, refl, arith}
-use Rattle.std.specs.Prelude.{not, is_none, ◌&&◌, nat_lt, nat_le, flat_map, map}
+use Rattle.std.proofs.Common.{◌≡◌, ◌^◌, ◌<◌, Bool, true, false, List, [], ◌∷◌, ◌++◌, length, refl, arith}
+use Rattle.std.specs.Prelude.{◌&&◌, nat_lt, nat_le, flat_map}
 use Rattle.std.specs.List.{list_all}
-use Rattle.std.proofs.lemmas.Bool.{and_parts, and_from, ltb-true}
-use Rattle.ir_module.specs.Numbered.{Numbered, all_steps, are_few, step_in_range, numbers_in_range}
-use Rattle.ir_module.specs.Printable.{IsPrintable, name_fits, names_fit, step_fits, constant_text_fits, flag_fits}
+use Rattle.std.proofs.lemmas.Bool.{and_parts, ltb-true}
+use Rattle.ir_module.specs.Numbered.{all_steps, are_few, step_in_range}
+use Rattle.ir_module.specs.Printable.{IsPrintable, name_fits, names_fit, step_fits}
 use Rattle.ir_module.specs.Steps.{steps_of_block, steps_of}
 use Rattle.ir_module.specs.Tree.{blocks_of}
-use Rattle.ir_module.specs.declared.tree.Block.{Block}
 use Rattle.ir_module.specs.declared.tree.Function.{Function}
 use Rattle.ir_module.specs.declared.tree.Module.{Module}
 use Rattle.ir_parts.specs.Parts.{Part}
@@ -15,12 +14,10 @@ use Rattle.ir_printer.specs.Canonical.{type_lines, constant_lines, section, tail
 use Rattle.ir_printer.specs.Functions.{function_section}
 use Rattle.ir_printer.specs.Groups.{groups_of, group_lines}
 use Rattle.ir_printer.specs.Metadata.{flags_sections}
-use Rattle.ir_printer.specs.Pieces.{line_end}
 use Rattle.canonical_text.proofs.Facts.{all_each, all_both, all_weaker}
-use Rattle.canonical_text.proofs.FunctionsGood.{FunctionFits, fits, block_fits, few_groups, function_safe}
+use Rattle.canonical_text.proofs.FunctionsGood.{FunctionFits, fits, few_groups, function_safe}
 use Rattle.canonical_text.proofs.Join.{Good, Safe, join}
 use Rattle.canonical_text.proofs.MetadataGood.{groups_good, constants_good, flags_good}
-use Rattle.canonical_text.proofs.OperandsGood.{Known}
 
 section_safe : {A : Type 0} (lines : List A → List Part) (xs : List A) → Good (lines xs) → Safe (section lines xs)
 section_safe lines [] h = refl

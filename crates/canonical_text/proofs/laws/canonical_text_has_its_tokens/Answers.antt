@@ -1,4 +1,3 @@
-use Rattle.std.proofs.Common.{ap, ◌∙◌}
 use Rattle.ir_printer.specs.Canonical.{canonical, module_parts}
 use Rattle.canonical_text.proofs.WholeGood.{module_good}
 use Rattle.canonical_text.proofs.laws.canonical_text_has_its_tokens.Goals as goal

@@ -1,6 +1,10 @@
 pub mod Equal
+pub mod CasesDiffer
 pub mod Facts
 pub mod First
+pub mod SameTypes
+pub mod SeenLemmas
 pub mod Spots
+pub mod Strips
 pub mod Unique
 pub mod Worked

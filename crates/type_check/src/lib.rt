@@ -1,8 +1,15 @@
 //! Admission: the rules that a module keeps, and the first one that it breaks.
 #![tactic(auto)]
 
+mod cases;
 mod code;
 mod laws;
+mod operands;
+mod scene;
+mod seen;
+mod shapes;
+mod signatures;
+mod words;
 
 pub use code::TypeCode;
 pub use laws::{modules_are_typed_or_faulty, modules_have_one_first_fault};

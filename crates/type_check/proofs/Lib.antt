@@ -1,7 +1,9 @@
 pub mod Equal
 pub mod CasesDiffer
+pub mod Equal
 pub mod Facts
 pub mod First
+pub mod PlainNumbers
 pub mod SameTypes
 pub mod SeenLemmas
 pub mod Spots

@@ -1,8 +1,11 @@
 pub mod Equal
 pub mod CasesDiffer
+pub mod EntryFaults
 pub mod Equal
 pub mod Facts
 pub mod First
+pub mod Fronts
+pub mod GreatestNumbers
 pub mod PlainNumbers
 pub mod SameTypes
 pub mod SeenLemmas

@@ -1,6 +1,8 @@
 -- What is seen of operands one after another.
 use Rattle.std.proofs.Common.{◌≡◌, ℕ, ◌-◌, ◌<◌, ◌≤◌, max, Bool, true, false, ◌&&◌, Option, None, Some, List, [], ◌∷◌, ◌++◌, length, get_or, take, drop, map, flat_map, refl, sym, ap, ◌∙◌, arith}
 use Rattle.std.proofs.lemmas.Grind.{common_steps}
+use Rattle.ir_module.specs.declared.tree.Block.{Block}
+use Rattle.ir_module.specs.Steps.{Step, PhiAt, InstAt, TermAt, steps_of_block}
 use Rattle.type_check.specs.declared.seen.Seen.{Seen}
 use Rattle.type_check.specs.code.Operands.{greater, nothing, both, collected}
 
@@ -30,7 +32,6 @@ pub both_assoc : (a b c : Seen) → both (both a b) c ≡ both a (both b c)
 unfolding both
 both_assoc a b c = λ i. record { types = and-and a.types b.types c.types i; known = and-and a.known b.known c.known i; qubit = greater-greater a.qubit b.qubit c.qubit i; result = greater-greater a.result b.result c.result i }
 
-
 pub nothing_both : (a : Seen) → both nothing a ≡ a
 unfolding both nothing
 nothing_both a = refl
@@ -57,6 +58,14 @@ module _ {A : Type 0} (h : A → Seen) where
   collected-map g [] = refl
   collected-map g (x ∷ xs) = ap (both (h (g x))) (collected-map g xs)
 
-  pub collected-flat : {B : Type 0} (g : B → List A) (xs : List B) → collected h (flat_map g xs) ≡ collected (λ x. collected h (g x)) xs
-  collected-flat g [] = refl
-  collected-flat g (x ∷ xs) = collected-append (g x) (flat_map g xs) ∙ ap (both (collected h (g x))) (collected-flat g xs)
+  pub collected_flat : {B : Type 0} (g : B → List A) (xs : List B) → collected h (flat_map g xs) ≡ collected (λ x. collected h (g x)) xs
+  collected_flat g [] = refl
+  collected_flat g (x ∷ xs) = collected-append (g x) (flat_map g xs) ∙ ap (both (collected h (g x))) (collected_flat g xs)
+
+pub block_collected : (h : Step → Seen) (b : Block) → both (collected (λ p. h (PhiAt p)) b.phis) (both (collected (λ i. h (InstAt i)) b.insts) (h (TermAt b.term))) ≡ collected h (steps_of_block b)
+block_collected h b =
+    ap (λ s. both (collected (λ p. h (PhiAt p)) b.phis) (both (collected (λ i. h (InstAt i)) b.insts) s)) (sym (both_nothing (h (TermAt b.term))))
+    ∙ ap (λ s. both s (both (collected (λ i. h (InstAt i)) b.insts) (collected h (TermAt b.term ∷ [])))) (sym (collected-map h PhiAt b.phis))
+    ∙ ap (λ s. both (collected h (map PhiAt b.phis)) (both s (collected h (TermAt b.term ∷ [])))) (sym (collected-map h InstAt b.insts))
+    ∙ ap (both (collected h (map PhiAt b.phis))) (sym (collected-append h (map InstAt b.insts) (TermAt b.term ∷ [])))
+    ∙ sym (collected-append h (map PhiAt b.phis) (map InstAt b.insts ++ (TermAt b.term ∷ [])))

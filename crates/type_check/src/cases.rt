@@ -15,10 +15,7 @@ fn key(i: &Int) -> (u32, u64)
 }
 
 /// Whether the integers of the cases differ from these and from one another.
-fn differ_from(
-    mut seen: IndexSet<(u32, u64)>,
-    mut cases: &[(Int, BlockId)],
-) -> Result<bool, Memory>
+fn differ_from(mut seen: IndexSet<(u32, u64)>, mut cases: &[(Int, BlockId)]) -> Result<bool, Memory>
     ensures { IfOk result (λ differ. differ ≡ differ_from seen.keys cases.entry.now) }
 {
     while let [case, rest @ ..] = cases {

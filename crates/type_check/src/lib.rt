@@ -1,15 +1,18 @@
 //! Admission: the rules that a module keeps, and the first one that it breaks.
 #![tactic(auto)]
 
+mod arcs;
 mod cases;
 mod code;
 mod laws;
+mod numbers;
 mod operands;
 mod scene;
 mod seen;
 mod shapes;
 mod signatures;
 mod words;
+mod written;
 
 pub use code::TypeCode;
 pub use laws::{modules_are_typed_or_faulty, modules_have_one_first_fault};

@@ -1,4 +1,3 @@
-pub mod Equal
 pub mod CasesDiffer
 pub mod EntryFaults
 pub mod Equal

@@ -126,7 +126,7 @@ long_input None long = let some = long_bytes limit in (some.0, some.1, tt)
 long_input (Some all) long = (all, long, refl)
 
 too-long-comes : (command : Command) (bytes : List ℕ) → limit < length bytes → ComesTo command bytes (Err (at_start TooLong))
-too-long-comes (LowerBase budget) bytes long = refuses (at_start TooLong) (too-long-is bytes long)
+too-long-comes command bytes long = refuses (at_start TooLong) (too-long-is bytes long)
 
 pub too-long-replies : (command : Command) (bytes : List ℕ) → limit < length bytes → (r : Result Reply NoMemory) → IfOk r (λ r. r ≡ too_long)
     → IfOk r (λ r. Replies command bytes r)

@@ -2,6 +2,8 @@
 #![tactic(auto)]
 
 #[cfg(test)]
+mod llvm;
+#[cfg(test)]
 mod syntax;
 #[cfg(test)]
 mod text;

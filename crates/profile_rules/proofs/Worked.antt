@@ -19,7 +19,6 @@ use Rattle.ir_module.specs.declared.tree.Block.{Block}
 use Rattle.ir_module.specs.declared.tree.Callee.TheVariants as callee
 use Rattle.ir_module.specs.declared.tree.Flag.{Flag}
 use Rattle.ir_module.specs.declared.tree.FlagPart.TheVariants as part
-use Rattle.ir_module.specs.declared.tree.FlagValue.{FlagValue}
 use Rattle.ir_module.specs.declared.tree.FlagValue.TheVariants as flag
 use Rattle.ir_module.specs.declared.tree.Function.{Function}
 use Rattle.ir_module.specs.declared.tree.Inst.{Inst}
@@ -28,7 +27,6 @@ use Rattle.ir_module.specs.declared.tree.InstKind.TheVariants as kind
 use Rattle.ir_module.specs.declared.tree.Module.{Module}
 use Rattle.ir_module.specs.declared.tree.Operand.{Operand}
 use Rattle.ir_module.specs.declared.tree.Operand.TheVariants as operand
-use Rattle.ir_module.specs.declared.tree.Phi.{Phi}
 use Rattle.ir_module.specs.declared.tree.Term.{Term}
 use Rattle.ir_module.specs.declared.tree.Term.TheVariants as term
 use Rattle.ir_module.specs.Spots.{point_at}

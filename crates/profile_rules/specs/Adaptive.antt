@@ -30,7 +30,7 @@ use Rattle.ir_module.specs.Numbered.{is_int}
 use Rattle.ir_module.specs.Steps.{Step, PhiAt, InstAt, TermAt, NoStep, step_of_point, steps_of}
 use Rattle.ir_module.specs.Tree.{blocks_of}
 use Rattle.graph_cycles.specs.Cycles.{Graph, Reaches, IsOnCycle}
-use Rattle.profile_rules.specs.Calls.{Call, passes, at_call, call_of, calls_body, calls_class, has_count, is_constant, is_int_record}
+use Rattle.profile_rules.specs.Calls.{Call, passes, at_call, call_of, calls_body, calls_class, has_count, is_int_record}
 use Rattle.profile_rules.specs.Findings.{Rules, Breaks}
 use Rattle.profile_rules.specs.Shared.{names_other_profile, lacks_labeling_schema, lacks_required_number, lacks_required_flag, flag_of, has_other_body, initializes_late, on_entry}
 use Rattle.profile_rules.specs.Walk.{is_return}

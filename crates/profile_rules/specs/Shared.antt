@@ -1,6 +1,6 @@
 -- The rules that both profiles have, each as a test that is true where it is broken (QIR specification, 'Attributes' and
 -- 'Module Flags Metadata').
-use Rattle.std.specs.Prelude.{ℕ, ◌==◌, ◌&&◌, ◌||◌, not, Bool, true, false, is_some, Option, List, [], ◌∷◌, option_and_then, codes}
+use Rattle.std.specs.Prelude.{ℕ, ◌==◌, ◌&&◌, not, Bool, false, is_some, Option, List, option_and_then, codes}
 use Rattle.std.specs.List.{find}
 use Rattle.ir_values.specs.Calls.{same_text}
 use Rattle.ir_module.specs.declared.places.Point.{Point}

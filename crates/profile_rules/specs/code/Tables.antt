@@ -1,5 +1,5 @@
 -- What tables of cycles and of calls that lead back tell.
-use Rattle.std.specs.Prelude.{◌≡◌, ◌↔◌, ℕ, Bool, true, Some, slice_get}
+use Rattle.std.specs.Prelude.{◌≡◌, ◌↔◌, Bool, true, Some, slice_get}
 use Rattle.ir_module.specs.declared.places.Point.{Point}
 use Rattle.ir_module.specs.declared.tree.Function.{Function}
 use Rattle.ir_module.specs.declared.tree.Module.{Module}

@@ -5,3 +5,5 @@
 mod given;
 #[cfg(test)]
 mod lower_base;
+#[cfg(test)]
+mod print;

@@ -64,9 +64,16 @@ abbrev pub deepest : List ℕ → List TyWord → ℕ
 deepest open_types [] = 0
 deepest open_types (w ∷ ws) = max (length (behind_word open_types w)) (deepest (behind_word open_types w) ws)
 
--- a whole type whose function pointer types nest 64 deep at most
+-- the word `void` stands alone, or for what a function pointer type returns: directly behind the word of that type
+abbrev pub voids_return : Bool → List TyWord → Bool
+voids_return returned [] = true
+voids_return returned (word.Func n ∷ ws) = voids_return true ws
+voids_return returned (word.Void ∷ ws) = returned && voids_return false ws
+voids_return returned (w ∷ ws) = voids_return false ws
+
+-- a whole type whose function pointer types nest 64 deep at most and have no parameter of type `void`
 abbrev pub type_fits : Ty → Bool
-type_fits t = is_ty t && nat_le (deepest [] (words_of t)) 64
+type_fits t = is_ty t && (nat_le (deepest [] (words_of t)) 64 && voids_return true (words_of t))
 
 abbrev pub value_type_fits : Ty → Bool
 value_type_fits t = not (is_void t) && type_fits t

@@ -19,7 +19,8 @@ use Rattle.ir_names.specs.Sense.{Sense, is_before}
 
 -- a constant or function whose name has a definition before
 abbrev pub global_duplicate : Sense → Before → Token → List Fault
-global_duplicate g b t = fault_if (is_before (g.constant (g.name t)) b.constants || is_before (g.function (g.name t)) b.functions) Duplicate t
+global_duplicate g b t =
+    fault_if (is_before (g.constant (g.name t)) b.constants || is_before (g.function (g.name t)) b.functions) Duplicate t
 
 abbrev pub group_duplicate : Sense → Before → Token → List Fault
 group_duplicate g b t = fault_if (is_before (g.group t) b.items) Duplicate t

@@ -5,11 +5,10 @@ use Rattle.std.specs.List.{list_any}
 use Rattle.ir_values.specs.declared.class.Class.{Class}
 use Rattle.ir_values.specs.declared.class.Class.TheVariants as class
 use Rattle.ir_values.specs.declared.ids.LocalId.{LocalId}
-use Rattle.ir_values.specs.declared.int.BinOp.{BinOp}
-use Rattle.ir_values.specs.declared.int.BinOp.TheVariants as op
 use Rattle.ir_values.specs.declared.int.Width.TheVariants.{W1}
 use Rattle.ir_values.specs.declared.ty.Ty.{Ty}
 use Rattle.ir_values.specs.declared.ty.Ty.TheVariants as ty
+use Rattle.ir_values.specs.Values.{is_bitwise}
 use Rattle.ir_module.specs.declared.places.Point.{Point}
 use Rattle.ir_module.specs.declared.places.Spot.{Spot}
 use Rattle.ir_module.specs.declared.places.Spot.TheVariants as spot
@@ -86,24 +85,18 @@ block_graph f = map (λ c. map (λ b. b.0) (edges c.term)) (blocks_of f)
 
 -- ---- integers
 
--- the operations that are free on one bit
-abbrev pub is_free_op : BinOp → Bool
-is_free_op op.And = true
-is_free_op op.Or = true
-is_free_op op.Xor = true
-is_free_op o = false
-
-abbrev pub is_bit : Ty → Bool
-is_bit (ty.Int W1) = true
-is_bit t = false
+-- of one bit: the operations on each bit by itself are free there
+abbrev pub is_boolean : Ty → Bool
+is_boolean (ty.Int W1) = true
+is_boolean t = false
 
 -- an integer of more than one bit
 abbrev pub is_wide : Ty → Bool
-is_wide t = is_int t && not (is_bit t)
+is_wide t = is_int t && not (is_boolean t)
 
 abbrev pub kind_computes : InstKind → Bool
-kind_computes (kind.Binary o flags t a b) = not (is_bit t && is_free_op o)
-kind_computes (kind.Icmp p t a b) = not (is_bit t)
+kind_computes (kind.Binary o flags t a b) = not (is_boolean t && is_bitwise o)
+kind_computes (kind.Icmp p t a b) = not (is_boolean t)
 kind_computes (kind.Convert c t a to) = true
 kind_computes (kind.Select c t a u b) = is_wide t
 kind_computes (kind.Call ret g args) = false

@@ -26,7 +26,7 @@ use Rattle.kept_items.specs.Targets.{has_ints, has_switch}
 use Rattle.static_steps.specs.declared.turn.Move.{Move}
 use Rattle.static_steps.specs.declared.turn.Turn.TheVariants.{Bad}
 use Rattle.static_steps.specs.Edges.{all_along, along, along_to, arrived, branch_turn, case_values, edges_to, edges_turn, phis_bring, switch_turn, targets}
-use Rattle.static_steps.specs.Integers.{is_bit}
+use Rattle.ir_values.specs.Values.{is_bit}
 use Rattle.static_steps.specs.Settings.{Setting, at_point}
 use Rattle.static_steps.specs.Values.{Names, look, put_some, val_of}
 use Rattle.runs_follow_steps.specs.Describes.{Fit, Fits, at_name, locals_in}

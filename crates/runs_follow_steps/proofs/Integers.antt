@@ -33,9 +33,10 @@ use Rattle.kept_items.specs.Items.{Did, Gave, binary_did, bit_int, computed, did
 use Rattle.kept_items.specs.Targets.{has_ints}
 use Rattle.static_steps.specs.declared.turn.Turn.{Turn}
 use Rattle.static_steps.specs.declared.turn.Turn.TheVariants.{Lost}
-use Rattle.static_steps.specs.Integers.{binary_known, binary_turn, convert_known, convert_turn, folded, icmp_known, icmp_turn, is_bit, is_bitwise, is_number, select_kept, select_turn}
+use Rattle.static_steps.specs.Integers.{binary_known, binary_turn, convert_known, convert_turn, folded, icmp_known, icmp_turn, is_number, select_kept, select_turn}
 use Rattle.static_steps.specs.Settings.{Setting, bound, gives_known, goes, kept_if}
-use Rattle.static_steps.specs.Values.{same_known, same_width}
+use Rattle.ir_values.specs.Values.{is_bit, is_bitwise, same_width}
+use Rattle.static_steps.specs.Values.{same_known}
 use Rattle.runs_follow_steps.specs.Describes.{Fits, IsNot, ResultInRange}
 use Rattle.runs_follow_steps.specs.Meets.{DidMeets, TurnMeets, traps}
 use Rattle.runs_follow_steps.proofs.Bound.{gives-fresh, gives-known, gives-val, kept-if, kept-moves, whole}

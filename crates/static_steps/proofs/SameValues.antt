@@ -11,7 +11,7 @@ use Rattle.ir_values.specs.declared.value.Value.{Value}
 use Rattle.ir_values.specs.declared.value.Value.TheVariants as value
 use Rattle.ir_values.specs.Equal.{same_test}
 use Rattle.ir_values.specs.Int.{IntValue}
-use Rattle.static_steps.specs.Values.{same_int, same_value, same_width}
+use Rattle.ir_values.specs.Values.{same_int, same_value, same_width}
 
 same-numbers : (a b : ℕ) → (a == b) ≡ true → a ≡ b
 same-numbers a b e = (unsigned_Decides a b).0 e

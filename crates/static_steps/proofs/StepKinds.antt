@@ -60,7 +60,8 @@ use Rattle.static_steps.specs.Results as results
 use Rattle.static_steps.specs.Returns as returns
 use Rattle.static_steps.specs.Settings.{Setting, bound, gives_dynamic, gives_known, goes, kept_if, passed, silent}
 use Rattle.static_steps.specs.Steps.{inst_turn, setting_of, static_step, step_turn, term_turn, with_val, with_vals}
-use Rattle.static_steps.specs.Values.{same_known, same_width, val_of, vals_of}
+use Rattle.ir_values.specs.Values.{is_bit, is_bitwise, same_width}
+use Rattle.static_steps.specs.Values.{same_known, val_of, vals_of}
 
 either : (b : Bool) (u v : Turn) → IsStepTurn u → IsStepTurn v → IsStepTurn (if b then u else v)
 either true u v h k = h
@@ -79,13 +80,13 @@ module _ (s : Setting) where
     binaries o flags wd (Known (value.Int i)) (Known (value.Int j)) =
         either (same_width i.width j.width && allows o flags) (integers.folded s x (binary_of o flags i j)) Lost (folds (binary_of o flags i j)) tt
     binaries o flags wd (Known v) (Known u) = tt
-    binaries o flags wd a b = keeps (has_ints s.t || (integers.is_bit wd && integers.is_bitwise o)) (item.Binary s.fresh o flags wd a b)
+    binaries o flags wd a b = keeps (has_ints s.t || (is_bit wd && is_bitwise o)) (item.Binary s.fresh o flags wd a b)
 
     icmps : (o : Pred) (wd : Width) (a b : Val) → IsStepTurn (integers.icmp_turn s x o wd a b)
     icmps o wd (Known (value.Int i)) (Known (value.Int j)) =
         either (same_width i.width j.width) (gives_known s x (value.Int (bit_int (compare_of o i j)))) Lost tt tt
     icmps o wd (Known v) (Known u) = tt
-    icmps o wd a b = keeps (has_ints s.t || integers.is_bit wd) (item.Icmp s.fresh o wd a b)
+    icmps o wd a b = keeps (has_ints s.t || is_bit wd) (item.Icmp s.fresh o wd a b)
 
     converts-to : (o : Conv) (wd : Width) (a : Val) (to : Width) → IsStepTurn (integers.convert_turn s x o wd a to)
     converts-to o wd (Known (value.Int i)) to = either (converts o i.width to) (gives_known s x (value.Int (convert_of o i to))) Lost tt tt
@@ -94,8 +95,8 @@ module _ (s : Setting) where
 
     select-kept : (t : Ty) (d : Dyn) (a b : Val) → IsStepTurn (integers.select_kept s x t d a b)
     select-kept (ty.Int wd) d a b =
-        either (integers.is_number a && integers.is_number b) (kept_if s x (has_ints s.t || integers.is_bit wd) (item.Select s.fresh wd (Dynamic d) a b)) Lost
-        (keeps (has_ints s.t || integers.is_bit wd) (item.Select s.fresh wd (Dynamic d) a b)) tt
+        either (integers.is_number a && integers.is_number b) (kept_if s x (has_ints s.t || is_bit wd) (item.Select s.fresh wd (Dynamic d) a b)) Lost
+        (keeps (has_ints s.t || is_bit wd) (item.Select s.fresh wd (Dynamic d) a b)) tt
     select-kept ty.Qubit d a b = tt
     select-kept ty.Res d a b = tt
     select-kept (ty.Func ws) d a b = tt
@@ -250,7 +251,7 @@ module _ (s : Setting) where
   switches wd (Known v) b cases = tt
   switches wd (Dynamic d) b cases =
       let c : Choice = Switch d wd (edges.case_values cases) in
-      either (has_switch s.t && (integers.is_bit wd || has_ints s.t)) (edges.edges_to s (edges.targets cases b) c) (Bad kind.Capability) (edges-to (edges.targets cases b) c) tt
+      either (has_switch s.t && (is_bit wd || has_ints s.t)) (edges.edges_to s (edges.targets cases b) c) (Bad kind.Capability) (edges-to (edges.targets cases b) c) tt
 
   exits : (a : Option Val) → IsStepTurn (returns.exits s a)
   exits None = tt

@@ -20,7 +20,7 @@ use Rattle.kept_items.specs.Targets.{has_ints, has_switch}
 use Rattle.static_steps.specs.declared.turn.Move.{Move}
 use Rattle.static_steps.specs.declared.turn.Turn.{Turn}
 use Rattle.static_steps.specs.declared.turn.Turn.TheVariants.{Goes, Bad, Lost}
-use Rattle.static_steps.specs.Integers.{is_bit}
+use Rattle.ir_values.specs.Values.{is_bit}
 use Rattle.static_steps.specs.Settings.{Setting, at_point, here, move_to}
 use Rattle.static_steps.specs.Values.{Names, put_some, val_of}
 

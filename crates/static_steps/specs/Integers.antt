@@ -17,6 +17,7 @@ use Rattle.ir_values.specs.declared.value.Value.TheVariants as value
 use Rattle.ir_values.specs.Arithmetic.{allows, binary_of, compare_of, converts, convert_of}
 use Rattle.ir_values.specs.Int.{IntValue}
 use Rattle.qir_meaning.specs.Effects.{is_one}
+use Rattle.ir_values.specs.Values.{is_bit, is_bitwise, same_width}
 use Rattle.kept_items.specs.declared.item.Item.TheVariants.{Binary, Icmp, Convert, Select}
 use Rattle.kept_items.specs.declared.target.Kind.TheVariants as kind
 use Rattle.kept_items.specs.declared.val.Dyn.{Dyn}
@@ -27,20 +28,7 @@ use Rattle.kept_items.specs.Targets.{has_ints}
 use Rattle.static_steps.specs.declared.turn.Turn.{Turn}
 use Rattle.static_steps.specs.declared.turn.Turn.TheVariants.{Bad, Lost}
 use Rattle.static_steps.specs.Settings.{Setting, bound, gives_known, goes, kept_if}
-use Rattle.static_steps.specs.Values.{same_known, same_width}
-
-abbrev pub is_bit : Width → Bool
-is_bit W1 = true
-is_bit W8 = false
-is_bit W16 = false
-is_bit W32 = false
-is_bit W64 = false
-
-abbrev pub is_bitwise : BinOp → Bool
-is_bitwise op.And = true
-is_bitwise op.Or = true
-is_bitwise op.Xor = true
-is_bitwise other = false
+use Rattle.static_steps.specs.Values.{same_known}
 
 -- an integer, known or Dynamic
 abbrev pub is_number : Val → Bool

@@ -6,33 +6,12 @@ use Rattle.ir_values.specs.declared.ids.LocalId.{LocalId}
 use Rattle.ir_values.specs.declared.int.Width.{Width}
 use Rattle.ir_values.specs.declared.value.Value.{Value}
 use Rattle.ir_values.specs.declared.value.Value.TheVariants as value
-use Rattle.ir_values.specs.Calls.{same_text}
-use Rattle.ir_values.specs.Int.{IntValue}
-use Rattle.ir_values.specs.Width.{bits_of}
+use Rattle.ir_values.specs.Values.{same_value}
 use Rattle.kept_items.specs.declared.val.Dyn.{Dyn}
 use Rattle.kept_items.specs.declared.val.Val.{Val}
 use Rattle.kept_items.specs.declared.val.Val.TheVariants.{Known, Dynamic}
 
 -- ---- equal values
-
-abbrev pub same_width : Width → Width → Bool
-same_width a b = bits_of a == bits_of b
-
-abbrev pub same_int : IntValue → IntValue → Bool
-same_int i j = same_width i.width j.width && i.bits == j.bits
-
-abbrev pub same_value : Value → Value → Bool
-same_value (value.Int i) (value.Int j) = same_int i j
-same_value (value.Double a) (value.Double b) = same_text a b
-same_value (value.Id i) (value.Id j) = i == j
-same_value (value.Alloc i) (value.Alloc j) = i == j
-same_value (value.Measured i) (value.Measured j) = i == j
-same_value value.One value.One = true
-same_value value.Zero value.Zero = true
-same_value (value.Label a) (value.Label b) = a.0 == b.0
-same_value value.NoLabel value.NoLabel = true
-same_value (value.Func f) (value.Func g) = f.0 == g.0
-same_value v u = false
 
 -- both are known, and they are equal
 abbrev pub same_known : Val → Val → Bool

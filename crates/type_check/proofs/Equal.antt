@@ -8,7 +8,8 @@ use Rattle.ir_values.specs.declared.ty.Ty.TheVariants as ty
 use Rattle.ir_values.specs.Calls.{same_words}
 use Rattle.ir_values.proofs.WordLemmas.{same_words_decides}
 use Rattle.ir_module.specs.Numbered.{is_void}
-use Rattle.type_check.specs.Typing.{same_width, same_type}
+use Rattle.ir_values.specs.Values.{same_width}
+use Rattle.type_check.specs.Typing.{same_type}
 
 pub same_width-is : (w v : Width) → same_width w v ≡ true → w ≡ v
 same_width-is W1 W1 e = refl

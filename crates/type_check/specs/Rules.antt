@@ -11,9 +11,9 @@ use Rattle.ir_values.specs.declared.ty.Ty.TheVariants as ty
 use Rattle.ir_values.specs.declared.value.Value.{Value}
 use Rattle.ir_values.specs.declared.value.Value.TheVariants as value
 use Rattle.ir_values.specs.Arithmetic.{converts}
-use Rattle.ir_values.specs.Calls.{same_text}
 use Rattle.ir_values.specs.Int.{IntValue}
 use Rattle.ir_values.specs.Names.{name_text, quantum_prefix}
+use Rattle.ir_values.specs.Values.{same_int, same_value}
 use Rattle.ir_module.specs.declared.tree.Block.{Block}
 use Rattle.ir_module.specs.declared.tree.Function.{Function}
 use Rattle.ir_module.specs.declared.tree.InstKind.{InstKind}
@@ -28,7 +28,7 @@ use Rattle.ir_module.specs.Edges.{edges}
 use Rattle.ir_module.specs.Numbered.{is_int, is_void}
 use Rattle.ir_module.specs.Steps.{Step, PhiAt, InstAt, TermAt, NoStep}
 use Rattle.ir_module.specs.Tree.{blocks_of}
-use Rattle.type_check.specs.Typing.{same_width, same_type, local_type, is_of_type, all_have, wants, result_type}
+use Rattle.type_check.specs.Typing.{same_type, local_type, is_of_type, all_have, wants, result_type}
 
 -- ---- types (LLVM Language Reference, 'Instruction Reference')
 
@@ -88,22 +88,6 @@ abbrev pub entries_match : List ℕ → List (Operand × BlockId) → Bool
 entries_match from entries =
     list_all (λ q. times q from == times q (entry_blocks entries)) (from ++ entry_blocks entries)
 
-abbrev pub same_integer : IntValue → IntValue → Bool
-same_integer i j = same_width i.width j.width && (i.bits == j.bits)
-
-abbrev pub same_value : Value → Value → Bool
-same_value (value.Int i) (value.Int j) = same_integer i j
-same_value (value.Double d) (value.Double e) = same_text d e
-same_value (value.Id n) (value.Id k) = n == k
-same_value (value.Alloc n) (value.Alloc k) = n == k
-same_value (value.Measured n) (value.Measured k) = n == k
-same_value value.One value.One = true
-same_value value.Zero value.Zero = true
-same_value (value.Label g) (value.Label h) = g.0 == h.0
-same_value value.NoLabel value.NoLabel = true
-same_value (value.Func g) (value.Func h) = g.0 == h.0
-same_value v w = false
-
 abbrev pub same_operand : Operand → Operand → Bool
 same_operand (operand.Const v) (operand.Const w) = same_value v w
 same_operand (operand.Local x) (operand.Local y) = x.0 == y.0
@@ -135,7 +119,7 @@ keeps_first b NoStep = true
 
 abbrev pub are_distinct : List (IntValue × BlockId) → Bool
 are_distinct [] = true
-are_distinct (c ∷ cs) = not (list_any (λ d. same_integer d.0 c.0) cs) && are_distinct cs
+are_distinct (c ∷ cs) = not (list_any (λ d. same_int d.0 c.0) cs) && are_distinct cs
 
 -- no two cases of a switch are equal
 unfoldable pub cases_differ : Step → Bool

@@ -11,7 +11,7 @@ use Rattle.ir_values.specs.declared.value.Value.{Value}
 use Rattle.ir_values.specs.declared.value.Value.TheVariants as value
 use Rattle.ir_values.specs.Calls.{same_words}
 use Rattle.ir_values.specs.Types.{signature}
-use Rattle.ir_values.specs.Width.{bits_of}
+use Rattle.ir_values.specs.Values.{same_width}
 use Rattle.ir_module.specs.declared.tree.Function.{Function}
 use Rattle.ir_module.specs.declared.tree.InstKind.{InstKind}
 use Rattle.ir_module.specs.declared.tree.InstKind.TheVariants as kind
@@ -24,9 +24,6 @@ use Rattle.ir_module.specs.declared.tree.Term.TheVariants as term
 use Rattle.ir_module.specs.Classes.{type_words}
 use Rattle.ir_module.specs.Operands.{callee_operand}
 use Rattle.ir_module.specs.Steps.{Step, PhiAt, InstAt, TermAt, NoStep}
-
-abbrev pub same_width : Width → Width → Bool
-same_width w v = bits_of w == bits_of v
 
 -- two types are one
 unfoldable pub same_type : Ty → Ty → Bool

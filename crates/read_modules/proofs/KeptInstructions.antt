@@ -11,14 +11,14 @@ use Rattle.ir_values.specs.declared.int.Width.{Width}
 use Rattle.ir_values.specs.declared.int.Width.TheVariants as width
 use Rattle.ir_values.specs.declared.ty.Ty.{Ty}
 use Rattle.ir_values.specs.declared.ty.Ty.TheVariants as ty
-use Rattle.ir_values.specs.Types.{is_ty, words_of}
+use Rattle.ir_values.specs.Types.{is_ty}
 use Rattle.ir_module.specs.declared.tree.Callee.TheVariants as callee
 use Rattle.ir_module.specs.declared.tree.Function.{Function}
 use Rattle.ir_module.specs.declared.tree.Module.{Module}
 use Rattle.ir_module.specs.declared.tree.Operand.{Operand}
 use Rattle.ir_module.specs.Numbered.{is_void, is_written, operand_in_range, is_call}
 use Rattle.ir_module.specs.Operands.{callee_operand}
-use Rattle.ir_module.specs.Printable.{deepest, type_fits, value_type_fits, typed_fits, operand_fits, result_type}
+use Rattle.ir_module.specs.Printable.{type_fits, value_type_fits, typed_fits, operand_fits, result_type}
 use Rattle.ir_tokens.specs.declared.kind.Kind.{Kind}
 use Rattle.ir_tokens.specs.declared.kind.Kind.TheVariants as kind
 use Rattle.ir_tokens.specs.declared.token.Token.{Token}
@@ -62,7 +62,7 @@ pub value_fits : (t : Ty) → TypeKept t → value_type_fits t ≡ true
 value_fits t k = and_from (not (is_void t)) (type_fits t) (not_false (is_void t) k.solid) k.fits
 
 pub type_whole : (t : Ty) → type_fits t ≡ true → is_ty t ≡ true
-type_whole t h = (and_parts (is_ty t) (nat_le (deepest [] (words_of t)) 64) h).0
+type_whole t h = (and_parts (is_ty t) _ h).0
 
 -- What an instruction keeps.
 

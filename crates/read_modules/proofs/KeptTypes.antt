@@ -1,4 +1,4 @@
--- What types keep: they are whole, and nest as deep as they may.
+-- What types keep: they are whole, nest as deep as they may, and no parameter is `void`.
 use Rattle.std.specs.Prelude.{if◌then◌else◌, nat_lt, nat_le}
 use Rattle.std.proofs.Common.{◌≡◌, ℕ, zero, suc, ◌+◌, ◌≤◌, ◌<◌, Bool, true, false, Option, None, Some, List, [], ◌∷◌, map, refl, sym, subst, arith}
 use Rattle.std.proofs.lemmas.Bool.{ltb-true, ltb-false, le-leb, and_from, cond_both}
@@ -7,7 +7,7 @@ use Rattle.grammar.specs.Grammar.{Grammar}
 use Rattle.ir_values.specs.declared.sig.TyWord.TheVariants as word
 use Rattle.ir_values.specs.Types.{is_ty, words_of}
 use Rattle.ir_module.specs.Numbered.{is_void}
-use Rattle.ir_module.specs.Printable.{deepest as deepest_words, type_fits}
+use Rattle.ir_module.specs.Printable.{deepest as deepest_words, voids_return, type_fits}
 use Rattle.ir_tokens.specs.declared.kind.Kind.{Kind}
 use Rattle.ir_tokens.specs.declared.kind.Kind.TheVariants as kind
 use Rattle.ir_tokens.specs.declared.rule.Rule.TheVariants.{TooDeep}
@@ -18,26 +18,28 @@ use Rattle.ir_grammar.specs.SideRules.{unless}
 use Rattle.ir_grammar.specs.Types.{typed, word_type, width_of, byte_or_text, plain_type, byte_type, qubit_type, result_type, void_type, base_type, shallow, deepest, function_pointer, suffix_of, return_type_of, value_type_of, suffix_at, value_type_at, return_type}
 use Rattle.read_modules.proofs.Each.{Each, Each-map, Each-weaker, Each-both}
 use Rattle.read_modules.proofs.Keeping.{Keeps, keeps_tok, keeps_seq, keeps_alt, keeps_tree, keeps_dep, keeps_grow, keeps_marked, keeps_any, keeps_listed, keeps_weaker}
-use Rattle.read_modules.proofs.WholeTypes.{Nests, nests_word, nests_more, signature_whole, signature_nests}
+use Rattle.read_modules.proofs.WholeTypes.{Nests, nests_word, nests_more, Returns, Takes, signature_whole, signature_nests, signature_returns, signature_takes}
 
 -- a whole type that nests so deep at most
 pub record Whole (left : ℕ) (x : TypeSyntax) : Type 0 where
   pub whole : is_ty x.ty ≡ true
   pub nested : x.nesting ≤ left
   pub deep : Nests x.nesting (words_of x.ty)
+  pub returned : Returns (words_of x.ty)
 
--- and not `void`
+-- and neither `void` nor a function pointer type with such a parameter
 pub record Solid (left : ℕ) (x : TypeSyntax) : Type 0 where
   pub whole : Whole left x
   pub solid : is_void x.ty ≡ false
+  pub taken : Takes (words_of x.ty)
 
 word_solid : (left : ℕ) (k : Kind) (t : Token) → Solid left (typed (word_type k) t)
-word_solid left kind.DoubleType t = record { whole = record { whole = refl; nested = omega arith; deep = nests_word word.Double (λ o. refl) }; solid = refl }
-word_solid left k t = record { whole = record { whole = refl; nested = omega arith; deep = nests_word (word.Int (width_of k)) (λ o. refl) }; solid = refl }
+word_solid left kind.DoubleType t = record { whole = record { whole = refl; nested = omega arith; deep = nests_word word.Double (λ o. refl); returned = record { behind = λ rest. refl } }; solid = refl; taken = record { behind = λ rest. refl } }
+word_solid left k t = record { whole = record { whole = refl; nested = omega arith; deep = nests_word (word.Int (width_of k)) (λ o. refl); returned = record { behind = λ rest. refl } }; solid = refl; taken = record { behind = λ rest. refl } }
 
 byte_solid : (left : ℕ) (star : Option Token) (t : Token) → Solid left (typed (byte_or_text star) t)
-byte_solid left None t = record { whole = record { whole = refl; nested = omega arith; deep = nests_word (word.Int (width_of kind.I8)) (λ o. refl) }; solid = refl }
-byte_solid left (Some star) t = record { whole = record { whole = refl; nested = omega arith; deep = nests_word word.Text (λ o. refl) }; solid = refl }
+byte_solid left None t = record { whole = record { whole = refl; nested = omega arith; deep = nests_word (word.Int (width_of kind.I8)) (λ o. refl); returned = record { behind = λ rest. refl } }; solid = refl; taken = record { behind = λ rest. refl } }
+byte_solid left (Some star) t = record { whole = record { whole = refl; nested = omega arith; deep = nests_word word.Text (λ o. refl); returned = record { behind = λ rest. refl } }; solid = refl; taken = record { behind = λ rest. refl } }
 
 module _ {P : Token → Type 0} where
   base_kept : (left : ℕ) → Keeps P base_type (Solid left)
@@ -47,12 +49,12 @@ module _ {P : Token → Type 0} where
       (keeps_alt _ _
       (keeps_tree _ _ (keeps_any _) (λ p _. byte_solid left p.1 p.0))
       (keeps_alt _ _
-      (keeps_tree _ _ (keeps_any _) (λ t _. record { whole = record { whole = refl; nested = omega arith; deep = nests_word word.Qubit (λ o. refl) }; solid = refl }))
-      (keeps_tree _ _ (keeps_any _) (λ t _. record { whole = record { whole = refl; nested = omega arith; deep = nests_word word.Res (λ o. refl) }; solid = refl }))))
+      (keeps_tree _ _ (keeps_any _) (λ t _. record { whole = record { whole = refl; nested = omega arith; deep = nests_word word.Qubit (λ o. refl); returned = record { behind = λ rest. refl } }; solid = refl; taken = record { behind = λ rest. refl } }))
+      (keeps_tree _ _ (keeps_any _) (λ t _. record { whole = record { whole = refl; nested = omega arith; deep = nests_word word.Res (λ o. refl); returned = record { behind = λ rest. refl } }; solid = refl; taken = record { behind = λ rest. refl } }))))
 
   void_kept : (left : ℕ) → Keeps P void_type (Whole left)
   unfolding void_type
-  void_kept left = keeps_tree _ _ (keeps_any _) (λ t _. record { whole = refl; nested = omega arith; deep = nests_word word.Void (λ o. refl) })
+  void_kept left = keeps_tree _ _ (keeps_any _) (λ t _. record { whole = refl; nested = omega arith; deep = nests_word word.Void (λ o. refl); returned = record { behind = λ rest. refl } })
 
 -- the greatest nesting is at least each
 greater_first : (n m : ℕ) → n ≤ (if nat_lt n m then m else n)
@@ -88,14 +90,17 @@ pointer_solid left x params w l h =
     let own = nests_more x.nesting d (words_of x.ty) (deepest_first x.nesting params) w.deep in
     let others = Each-both (λ p. p.nesting ≤ d) (Solid left) (λ p. Nests d (words_of p.ty)) (λ p m s. nests_more p.nesting d (words_of p.ty) m s.whole.deep) params (deepest_each x.nesting params) h in
     let whole = Each-weaker (Solid left) (λ p. is_ty p.ty ≡ true) (λ p s. s.whole.whole) params h in
+    let taken = Each-map (λ u. Takes (words_of u)) (λ p. p.ty) params (Each-weaker (Solid left) (λ p. Takes (words_of p.ty)) (λ p s. s.taken) params h) in
     let low = deepest_below left x.nesting params (omega arith) (Each-weaker (Solid left) (λ p. p.nesting ≤ left) (λ p s. s.whole.nested) params h) in
     record {
       whole = record {
         whole = signature_whole x.ty (map (λ p. p.ty) params) w.whole (Each-map (λ u. is_ty u ≡ true) (λ p. p.ty) params whole);
         nested = omega arith;
         deep = signature_nests d x.ty (map (λ p. p.ty) params) own (Each-map (λ u. Nests d (words_of u)) (λ p. p.ty) params others);
+        returned = signature_returns x.ty (map (λ p. p.ty) params) w.returned taken;
       };
       solid = refl;
+      taken = signature_takes x.ty (map (λ p. p.ty) params) w.returned taken;
     }
 
 shallow_below : (left nesting : ℕ) (t : Token) → shallow left nesting t ≡ None → nesting < left
@@ -149,4 +154,5 @@ whole_fits x w =
     let e = append-nil (words_of x.ty) in
     let n = w.nested in
     let low : deepest_words [] (words_of x.ty) ≤ 64 = subst (λ ws. deepest_words [] ws ≤ 64) e (omega arith) in
-    and_from (is_ty x.ty) (nat_le (deepest_words [] (words_of x.ty)) 64) w.whole (le-leb _ _ low)
+    let given = subst (λ ws. voids_return true ws ≡ true) e (w.returned.behind []) in
+    and_from (is_ty x.ty) _ w.whole (and_from (nat_le (deepest_words [] (words_of x.ty)) 64) (voids_return true (words_of x.ty)) (le-leb _ _ low) given)

@@ -1,12 +1,12 @@
--- The words of function pointer types: they spell one type, and nest as deep as its parts and one deeper.
-use Rattle.std.proofs.Common.{◌≡◌, ℕ, zero, suc, ◌+◌, ◌≤◌, max, true, List, [], ◌∷◌, ◌++◌, length, flat_map, refl, sym, ap, ◌∙◌, subst, arith, append_assoc}
+-- The words of function pointer types: they spell one type, nest as deep as its parts and one deeper, and `void` is only returned.
+use Rattle.std.proofs.Common.{◌≡◌, ℕ, zero, suc, ◌+◌, ◌≤◌, max, true, false, List, [], ◌∷◌, ◌++◌, length, flat_map, refl, sym, ap, ◌∙◌, subst, arith, append_assoc}
 use Rattle.ir_values.specs.declared.sig.TyWord.{TyWord}
 use Rattle.ir_values.specs.declared.sig.TyWord.TheVariants as word
 use Rattle.ir_values.specs.declared.ty.Ty.{Ty}
 use Rattle.ir_values.specs.declared.ty.Ty.TheVariants as ty
 use Rattle.ir_values.specs.Types.{is_ty, words_of, signature}
 use Rattle.ir_values.specs.Words.{spells, is_sig}
-use Rattle.ir_module.specs.Printable.{behind_type, behind_word, deepest}
+use Rattle.ir_module.specs.Printable.{behind_type, behind_word, deepest, voids_return}
 use Rattle.read_modules.proofs.Each.{Each}
 
 -- They spell one type.
@@ -89,3 +89,29 @@ signature_nests n t ts h hs = record {
 
 pub nests_more : (m n : ℕ) (ws : List TyWord) → m ≤ n → Nests m ws → Nests n ws
 nests_more m n ws l h = record { deep = λ open_types rest. omega (arith, h.deep open_types rest) }
+
+-- Words of a type that is returned, and of one that isn't `void`: no word `void` that follows them is returned.
+
+pub record Returns (ws : List TyWord) : Type 0 where
+  pub behind : (rest : List TyWord) → voids_return true (ws ++ rest) ≡ voids_return false rest
+
+pub record Takes (ws : List TyWord) : Type 0 where
+  pub behind : (rest : List TyWord) → voids_return false (ws ++ rest) ≡ voids_return false rest
+
+parameters_take : (ts : List Ty) → Each (λ t. Takes (words_of t)) ts → Takes (flat_map words_of ts)
+parameters_take [] h = record { behind = λ rest. refl }
+parameters_take (t ∷ ts) h = record {
+  behind = λ rest. ap (voids_return false) (append_assoc (words_of t) (flat_map words_of ts) rest) ∙ h.0.behind (flat_map words_of ts ++ rest) ∙ (parameters_take ts h.1).behind rest;
+}
+
+-- what is returned and the parameters
+behind_returned : (t : Ty) (ts : List Ty) → Returns (words_of t) → Each (λ u. Takes (words_of u)) ts
+    → (rest : List TyWord) → voids_return true ((words_of t ++ flat_map words_of ts) ++ rest) ≡ voids_return false rest
+behind_returned t ts h hs rest =
+    ap (voids_return true) (append_assoc (words_of t) (flat_map words_of ts) rest) ∙ h.behind (flat_map words_of ts ++ rest) ∙ (parameters_take ts hs).behind rest
+
+pub signature_returns : (t : Ty) (ts : List Ty) → Returns (words_of t) → Each (λ u. Takes (words_of u)) ts → Returns (signature t ts)
+signature_returns t ts h hs = record { behind = behind_returned t ts h hs }
+
+pub signature_takes : (t : Ty) (ts : List Ty) → Returns (words_of t) → Each (λ u. Takes (words_of u)) ts → Takes (signature t ts)
+signature_takes t ts h hs = record { behind = behind_returned t ts h hs }

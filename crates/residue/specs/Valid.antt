@@ -31,6 +31,7 @@ use Rattle.residue.specs.declared.parts.Tail.{Tail}
 use Rattle.residue.specs.declared.parts.Tail.TheVariants as tail
 use Rattle.residue.specs.Functions.{Called, all_items, calls_of_residue, types_of}
 use Rattle.residue.specs.Phases.{phases_rise}
+use Rattle.residue.specs.Printed.{names_of}
 use Rattle.residue.specs.Scopes.{gives_of, item_gives, item_uses, items_of, jump_args, jumps, param_gives, part_gives, tail_uses, uses_of, width_in, written}
 
 -- every tail passes the test
@@ -249,8 +250,8 @@ label_below n a = true
 abbrev pub labels_below : Residue → Bool
 labels_below r = are_few r.globals && list_all (label_below (length r.globals)) (written r)
 
--- ---- every printed number is below 2 to the 64; parts and lines together number fewer than 2 to the 31, and the arguments of an
--- item fewer than 2 to the 32, as the parameters of a declaration do
+-- ---- every printed number is below 2 to the 64, those of local names among them; parts and lines together number fewer than 2 to
+-- the 31, and the arguments of an item fewer than 2 to the 32, as the parameters of a declaration do
 
 abbrev pub number_small : ℕ → ℕ → Val → Bool
 number_small qubits results (Known (value.Alloc j)) = nat_lt (qubits + j) (2 ^ 64)
@@ -264,7 +265,8 @@ parts_and_lines (p ∷ parts) = 1 + length p.lines + parts_and_lines parts
 abbrev pub numbers_small : Residue → Bool
 numbers_small r =
     list_all (number_small r.own_qubits r.own_results) (written r)
-    && (nat_lt (parts_and_lines r.parts) (2 ^ 31) && list_all (λ x. are_few (item_uses x)) (all_items r))
+    && (nat_lt (length (names_of r.parts)) (2 ^ 64)
+    && (nat_lt (parts_and_lines r.parts) (2 ^ 31) && list_all (λ x. are_few (item_uses x)) (all_items r)))
 
 -- ---- the target permits the items, the tails and the parameters
 

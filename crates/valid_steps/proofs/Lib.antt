@@ -1,0 +1,15 @@
+pub mod Calls
+pub mod Declared
+pub mod Edges
+pub mod Integers
+pub mod Names
+pub mod Numbers
+pub mod Operands
+pub mod Opened
+pub mod Packed
+pub mod Places
+pub mod Returns
+pub mod Starts
+pub mod Turns
+pub mod Whole
+pub mod Works

@@ -1,0 +1,4 @@
+pub mod Items
+pub mod Laws
+pub mod Turns
+pub mod Types

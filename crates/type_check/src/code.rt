@@ -1,6 +1,7 @@
 //! The rules of admission.
 ghost use Rattle.std.specs.Prelude.{◌≡◌};
 ghost use Rattle.std.proofs.Common.{rules};
+ghost use Rattle.type_check.specs.Codes.{name_of};
 ghost use Rattle.type_check.specs.Faults.{number};
 
 use ir_values::{Copies, Exact, Memory};
@@ -48,6 +49,24 @@ impl TypeCode {
             TypeCode::UnknownDecl => 9,
             TypeCode::EntrySignature => 10,
             TypeCode::ReservedName => 11,
+        }
+    }
+
+    /// The name of the rule in refusals.
+    pub fn name(self) -> &'static [u8]
+        ensures { result.now ≡ name_of self }
+    {
+        match self {
+            TypeCode::Types => b"Types",
+            TypeCode::PhiEntries => b"PhiEntries",
+            TypeCode::EntryBlock => b"EntryBlock",
+            TypeCode::SwitchCase => b"SwitchCase",
+            TypeCode::NoEntry => b"NoEntry",
+            TypeCode::BadNumberAttr => b"BadNumberAttr",
+            TypeCode::IdRange => b"IdRange",
+            TypeCode::UnknownDecl => b"UnknownDecl",
+            TypeCode::EntrySignature => b"EntrySignature",
+            TypeCode::ReservedName => b"ReservedName",
         }
     }
 }

@@ -4,9 +4,12 @@
 mod arcs;
 mod cases;
 mod code;
+mod entries;
 mod laws;
 mod numbers;
 mod operands;
+mod required;
+mod reserved;
 mod scene;
 mod seen;
 mod shapes;
@@ -16,3 +19,4 @@ mod written;
 
 pub use code::TypeCode;
 pub use laws::{modules_are_typed_or_faulty, modules_have_one_first_fault};
+pub use required::{Required, required_numbers};

@@ -26,7 +26,8 @@ use Rattle.static_steps.specs.declared.work.Work.{Work}
 use Rattle.static_steps.specs.declared.work.WorkFrame.{WorkFrame}
 use Rattle.static_steps.specs.Calls.{body_turn, calls_turn, enters, parameters}
 use Rattle.static_steps.specs.Configurations.{Bounds, Calls, CanBeCalled, by_body, by_class, Each, IsOther, IsValue, Rises, RisesFrom, Stands, type_of_some}
-use Rattle.static_steps.specs.Settings.{Setting, next_here}
+use Rattle.static_steps.specs.Settings.{Setting, move_to, next_here}
+use Rattle.static_steps.specs.Steps.{start_of}
 use Rattle.static_steps.specs.Values.{drop_result, keep}
 use Rattle.static_steps.specs.Works.{shaped, shaped_frames}
 use Rattle.type_check.specs.Faults.{Typed}
@@ -38,7 +39,7 @@ use Rattle.valid_steps.proofs.Declared.{declared-good}
 use Rattle.valid_steps.proofs.Names.{drop-result-each, drop-result-rises, dropped-each, each-map, filter-each, filter-rises, kept-each}
 use Rattle.valid_steps.proofs.Operands.{AreVals}
 use Rattle.valid_steps.proofs.Places.{first-stands}
-use Rattle.valid_steps.proofs.Turns.{Away, IsGood, goes-good}
+use Rattle.valid_steps.proofs.Turns.{Follows, IsGood, goes-good}
 use Rattle.valid_steps.proofs.Works.{IsTop, IsValName, IsWork, WaitsFor, bounds_of}
 
 -- ---- the names of a new frame
@@ -124,8 +125,11 @@ module _ (s : Setting) (entry : FuncId) (limit : ℕ) (numbered : Numbered s.m) 
         without_result = filter-each (λ y a. IsOther i.result y) (λ e. s.live (next_here s) e.0) (drop_result i.result s.w.top.names) (dropped-each i.result s.w.top.names);
       }
 
-      away : (g : FuncId) (vs : List Val) → Away s entry K R ts (new g vs)
-      away g vs e = let z : (shaped waiting ∷ shaped_frames s.w.below) ≡ [] = ap (λ (c : Config). c.below) e in cc
+      no-frames : (g : FuncId) (vs : List Val) → ¬ ((move_to s.live (new g vs)).to ≡ start_of entry)
+      no-frames g vs e = let z : (shaped waiting ∷ shaped_frames s.w.below) ≡ [] = ap (λ (c : Config). c.below) e in cc
+
+      follows : (g : FuncId) (vs : List Val) → Follows s entry K R ts (new g vs)
+      follows g vs = record { no_start = λ e. no-frames g vs e; allocated = omega arith; returned = omega arith }
 
       enters-good : (g : FuncId) (f : Function) (bs : List Block) (vs : List Val) → slice_get s.m.funcs g.0 ≡ Some f → f.blocks ≡ Some bs → Calls f.ret i.what → Vals (parameter_types f) vs
           → IsGood s entry K R ts (enters s i.result g vs)
@@ -152,7 +156,7 @@ module _ (s : Setting) (entry : FuncId) (limit : ℕ) (numbered : Numbered s.m) 
             ordered = now.ordered;
             phase = now.phase;
           })
-          (away g vs)
+          (follows g vs)
 
       module _ (ret : Ty) (us : List Ty) (j : IsTy ret) (js : All IsTy us) (agrees : result_agrees now.function i.result ret ≡ true) (calls : (u : Ty) → ret ≡ u → Calls u i.what) where
         body-good : (g : FuncId) (f : Function) → slice_get s.m.funcs g.0 ≡ Some f → CanBeCalled f → type_words f ≡ signature ret us → (o : Option (List Block)) → f.blocks ≡ o → (vs : List Val) → Vals us vs

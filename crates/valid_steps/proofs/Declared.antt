@@ -49,7 +49,7 @@ use Rattle.type_check.specs.Typing.{is_of_type, local_type}
 use Rattle.valid_steps.specs.Items.{AreOperands, IsItem, IsOperand, IsOperation, gives, is_recorded, permits_record, types_of}
 use Rattle.valid_steps.proofs.Numbers.{next-below, next-rises, without-below, without-rises}
 use Rattle.valid_steps.proofs.Operands.{AreVals, by-known, by-one, by-two}
-use Rattle.valid_steps.proofs.Turns.{IsGood, Named, advanced, away-later, bound-names, bound-rises, dynamic-good, either-good, goes-good, kept-good, known-good, named, names-later, passed-good, passes}
+use Rattle.valid_steps.proofs.Turns.{IsGood, Named, advanced, follows-at, bound-names, bound-rises, dynamic-good, either-good, goes-good, kept-good, known-good, named, names-later, passed-good, passes}
 use Rattle.valid_steps.proofs.Works.{Grows, IsWork, bounds_of, front, more-types, operand-later, same-bounds}
 
 -- ---- targets and phases
@@ -109,7 +109,7 @@ module _ (s : Setting) (entry : FuncId) (k r : ℕ) (ts : List (Option Ty)) (now
   releases-known (value.Id i) h = tt
   releases-known (value.Alloc j) h =
       either-good s entry k r ts (held_in s.w.held j) (goes s (record (passed s) { held = without s.w.held j })) (Bad (kind.Traps cause.Released))
-      (λ e. goes-good s entry k r ts (record (passed s) { held = without s.w.held j }) released (away-later s entry k r ts (record (passed s) { held = without s.w.held j }) s.w.top.at.index refl))
+      (λ e. goes-good s entry k r ts (record (passed s) { held = without s.w.held j }) released (follows-at s entry k r ts (record (passed s) { held = without s.w.held j }) s.w.top.at.index refl (omega arith) (omega arith)))
       (λ e. tt)
     where
       released : IsWork s.m s.t s.live entry k r ts (record (passed s) { held = without s.w.held j })
@@ -129,7 +129,7 @@ module _ (s : Setting) (entry : FuncId) (k r : ℕ) (ts : List (Option Ty)) (now
   outputs-good c args h =
       kept-good s entry k r ts (item.Output c args) (record (passed s) { phase = if is_base s.t then phase.Output else s.w.phase })
       (passes s entry k r ts now stands (if is_base s.t then phase.Output else s.w.phase) (ts ++ []) (more-types here ts []) (after-output s.t s.w.phase now.phase))
-      (away-later s entry k r ts (record (passed s) { phase = if is_base s.t then phase.Output else s.w.phase }) s.w.top.at.index refl) h
+      (follows-at s entry k r ts (record (passed s) { phase = if is_base s.t then phase.Output else s.w.phase }) s.w.top.at.index refl (omega arith) (omega arith)) h
 
   -- a count and its label
   count-good : (c : Class) → HasTypes c ty.Void (ty.Int W64 ∷ ty.Text ∷ []) → permits_record s.t c ≡ true
@@ -196,7 +196,7 @@ module _ (s : Setting) (entry : FuncId) (k r : ℕ) (ts : List (Option Ty)) (now
       by-phase (Some ph) e n =
           kept-good s entry k r ts (item.Operation name args) (record (passed s) { phase = ph })
           (passes s entry k r ts now stands ph (ts ++ []) (more-types here ts []) (after-operation s.t (if irreversible then after_irreversible s.w.phase else after_reversible s.w.phase) s.w.phase ph now.phase e))
-          (away-later s entry k r ts (record (passed s) { phase = ph }) s.w.top.at.index refl) (fits n)
+          (follows-at s entry k r ts (record (passed s) { phase = ph }) s.w.top.at.index refl (omega arith) (omega arith)) (fits n)
 
       by-cause : (o : Option Cause) → wrong_args s.w.held args ≡ o → IsGood s entry k r ts (issues s o irreversible name args)
       by-cause (Some why) e = tt
@@ -229,7 +229,7 @@ module _ (s : Setting) (entry : FuncId) (k r : ℕ) (ts : List (Option Ty)) (now
         by-result (Some y) a = absurd (not-void ret e (and_parts (is_of_type (local_type now.function y) ret) (not (is_void ret)) a).1)
 
     alloc-good : ret ≡ ty.Qubit → IsGood s entry k r ts (alloc_turn s x)
-    alloc-good e = goes-good s entry k r ts u work (away-later s entry k r ts u s.w.top.at.index refl)
+    alloc-good e = goes-good s entry k r ts u work (follows-at s entry k r ts u s.w.top.at.index refl (omega arith) (omega arith))
       where
         a : Val
         a = Known (value.Alloc s.w.allocated)
@@ -304,7 +304,7 @@ module _ (s : Setting) (entry : FuncId) (k r : ℕ) (ts : List (Option Ty)) (now
         by-phase a ha n (Some ph) p =
             kept-good s entry k r ts (item.Operation (qis (codes "mz__body")) ((ty.Qubit, a) ∷ (ty.Res, q) ∷ [])) (u ph)
             (work ph (after-operation s.t (after_irreversible s.w.phase) s.w.phase ph now.phase p))
-            (away-later s entry k r ts (u ph) s.w.top.at.index refl) (measured, (operand-later s.m s.t here after ts ts same-types ty.Qubit a ha, (omega arith, tt)), n)
+            (follows-at s entry k r ts (u ph) s.w.top.at.index refl (omega arith) (omega arith)) (measured, (operand-later s.m s.t here after ts ts same-types ty.Qubit a ha, (omega arith, tt)), n)
 
         by-cause : (a : Val) → Is ty.Qubit a → (o : Option Cause) → wrong_args s.w.held ((ty.Qubit, a) ∷ []) ≡ o → IsGood s entry k r ts (returning_on s x o ((ty.Qubit, a) ∷ []))
         by-cause a ha (Some why) n = tt

@@ -162,7 +162,7 @@ module _ (s : Setting) (entry : FuncId) (limit : ℕ) (numbered : Numbered s.m) 
     pub record Along (to : BlockId) : Type 0 where
       pub move : Move
       pub is : along s to ≡ Some move
-      pub fits : IsMove s.m s.t s.live entry K R ts None move
+      pub fits : IsMove s.m s.t s.live entry K R ts s.w.allocated s.w.returned None move
       pub there : move.to.top.at.block ≡ to
 
     module _ (range : step_in_range s.m now.function (TermAt spot.block.term) ≡ true) (keeps : StepKeeps s.m K R now.function at (TermAt spot.block.term)) where
@@ -171,7 +171,7 @@ module _ (s : Setting) (entry : FuncId) (limit : ℕ) (numbered : Numbered s.m) 
       not-start to e = not-first (edges spot.block.term) to keeps.first e
 
       arrives : (to : BlockId) (c : Block) → leads to (edges spot.block.term) ≡ true → block_at now.function to ≡ Some c → (ns : Names Val) → Rises ns → Named ns
-          → IsMove s.m s.t s.live entry K R ts None (move_to s.live (at_point s (record { func = at.func; block = to; index = length c.phis }) ns))
+          → IsMove s.m s.t s.live entry K R ts s.w.allocated s.w.returned None (move_to s.live (at_point s (record { func = at.func; block = to; index = length c.phis }) ns))
       arrives to c e is ns rises names =
           let q : Point = record { func = at.func; block = to; index = length c.phis } in
           no-item s entry K R ts (at_point s q ns)
@@ -188,7 +188,7 @@ module _ (s : Setting) (entry : FuncId) (limit : ℕ) (numbered : Numbered s.m) 
             ordered = now.ordered;
             phase = now.phase;
           })
-          (λ z. not-start to e (ap (λ (g : Config). g.top.at.block.0) z))
+          (record { no_start = λ z. not-start to e (ap (λ (g : Config). g.top.at.block.0) z); allocated = omega arith; returned = omega arith })
 
       pub on-edge : (to : BlockId) → leads to (edges spot.block.term) ≡ true → Along to
       on-edge to e =
@@ -213,12 +213,12 @@ module _ (s : Setting) (entry : FuncId) (limit : ℕ) (numbered : Numbered s.m) 
       record AllAlong (bs : List BlockId) : Type 0 where
         moves : List Move
         is : all_along s bs ≡ Some moves
-        fits : All (IsMove s.m s.t s.live entry K R ts None) moves
+        fits : All (IsMove s.m s.t s.live entry K R ts s.w.allocated s.w.returned None) moves
         count : length moves ≡ length bs
         from : (i : ℕ) (a : Move) → slice_get moves i ≡ Some a → (b : BlockId) × (along s b ≡ Some a) × (a.to.top.at.block ≡ b)
 
       none-along : AllAlong []
-      none-along = record { moves = []; is = refl; fits = All-nil (IsMove s.m s.t s.live entry K R ts None); count = refl; from = λ i a e. none i a e }
+      none-along = record { moves = []; is = refl; fits = All-nil (IsMove s.m s.t s.live entry K R ts s.w.allocated s.w.returned None); count = refl; from = λ i a e. none i a e }
         where
           none : (i : ℕ) (a : Move) → slice_get [] i ≡ Some a → (b : BlockId) × (along s b ≡ Some a) × (a.to.top.at.block ≡ b)
           none i a e = cc
@@ -227,7 +227,7 @@ module _ (s : Setting) (entry : FuncId) (limit : ℕ) (numbered : Numbered s.m) 
       one-more b bs first rest = record {
         moves = first.move ∷ rest.moves;
         is = ap (λ o. given o (λ mv. given (all_along s bs) (λ mvs. Some (mv ∷ mvs)))) first.is ∙ ap (λ o. given o (λ mvs. Some (first.move ∷ mvs))) rest.is;
-        fits = All-cons (IsMove s.m s.t s.live entry K R ts None) first.move rest.moves first.fits rest.fits;
+        fits = All-cons (IsMove s.m s.t s.live entry K R ts s.w.allocated s.w.returned None) first.move rest.moves first.fits rest.fits;
         count = ap suc rest.count;
         from = at-index;
       }

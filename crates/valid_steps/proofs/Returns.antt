@@ -1,5 +1,5 @@
 -- Returns.
-use Rattle.std.proofs.Common.{◌≡◌, ◌⊎◌, inl, inr, ⊎_elim, ℕ, ◌+◌, ◌==◌, Bool, true, false, Option, None, Some, List, [], ◌∷◌, slice_get, refl, sym, ap, ◌∙◌, subst}
+use Rattle.std.proofs.Common.{◌≡◌, ◌⊎◌, inl, inr, ⊎_elim, ℕ, ◌+◌, ◌==◌, Bool, true, false, Option, None, Some, List, [], ◌∷◌, slice_get, refl, sym, ap, ◌∙◌, subst, arith}
 use Rattle.std.proofs.lemmas.Bool.{and_parts, eqb-true}
 use Rattle.std.specs.Prelude.{◌||◌, not, pos}
 use Rattle.ir_module.specs.declared.places.Point.{Point}
@@ -37,7 +37,7 @@ use Rattle.valid_steps.specs.Items.{IsOperand}
 use Rattle.valid_steps.proofs.Names.{put-result-each, put-result-rises}
 use Rattle.valid_steps.proofs.Operands.{by-int, never-varies}
 use Rattle.valid_steps.proofs.Places.{result-before}
-use Rattle.valid_steps.proofs.Turns.{IsGood, away-later, either-good, goes-good, named}
+use Rattle.valid_steps.proofs.Turns.{IsGood, follows-at, either-good, goes-good, named}
 use Rattle.valid_steps.proofs.Works.{AreBelow, IsTop, IsValName, IsWork, WaitsFor, bounds_of}
 
 zero-is : (w : Width) → signed (record { width = w; bits = 0 }) ≡ pos 0
@@ -132,7 +132,7 @@ module _ (s : Setting) (entry : FuncId) (limit : ℕ) (typed : Typed s.m limit) 
             ordered = now.ordered;
             phase = now.phase;
           })
-          (away-later s entry K R ts u wait.call.index index-later)
+          (follows-at s entry K R ts u wait.call.index index-later (omega arith) (omega arith))
 
       resumed : (x : Option LocalId) (o : Option Val) → result_agrees j x now.function.ret ≡ true → Gives now.function.ret o → IsGood s entry K R ts (resumes s h hs (Some x) o)
       resumed None (Some a) ag g = with-value None a ag g
@@ -140,7 +140,7 @@ module _ (s : Setting) (entry : FuncId) (limit : ℕ) (typed : Typed s.m limit) 
       resumed None None ag g =
           let u : Work = record s.w { top = h; below = hs } in
           goes-good s entry K R ts u (record { function = j; top = top; below = rest; held = now.held; ordered = now.ordered; phase = now.phase })
-          (away-later s entry K R ts u wait.call.index index-later)
+          (follows-at s entry K R ts u wait.call.index index-later (omega arith) (omega arith))
       resumed (Some x) None ag g = absurd (not-void now.function.ret g (and_parts (is_of_type (local_type j x) now.function.ret) (not (is_void now.function.ret)) ag).1)
 
       resumes-good : (o : Option Val) → Gives now.function.ret o → IsGood s entry K R ts (resumes s h hs (call_result s.m h.at) o)

@@ -1,5 +1,5 @@
 -- Where a step leads: one move to a state that fits.
-use Rattle.std.proofs.Common.{◌≡◌, ℕ, zero, suc, ◌+◌, Bool, true, false, Option, None, Some, List, [], ◌∷◌, ◌++◌, length, slice_get, refl, sym, ap, ◌∙◌, subst, arith, append-nil}
+use Rattle.std.proofs.Common.{◌≡◌, ℕ, zero, suc, ◌+◌, Bool, true, false, Option, None, Some, List, [], ◌∷◌, ◌++◌, length, slice_get, refl, sym, ap, ◌∙◌, subst, arith, append-nil, ◌≤◌}
 use Rattle.std.proofs.lemmas.Bool.{and_parts}
 use Rattle.std.proofs.lemmas.List.Elements.{All-cons, All-nil}
 use Rattle.std.specs.Prelude.{if◌then◌else◌, not, option_map}
@@ -65,39 +65,44 @@ only mv (suc i) a h = cc
 
 module _ (s : Setting) (entry : FuncId) (k r : ℕ) (ts : List (Option Ty)) where
   abbrev pub IsGood : Turn → Type 0
-  IsGood = IsTurn s.m s.t s.live entry k r ts
+  IsGood = IsTurn s.m s.t s.live entry k r ts s.w.allocated s.w.returned
 
-  abbrev pub Away : Work → Type 0
-  Away u = ¬ ((move_to s.live u).to ≡ start_of entry)
+  -- it is not the start, and has at most one allocation and one returned result more
+  pub record Follows (u : Work) : Type 0 where
+    pub no_start : ¬ ((move_to s.live u).to ≡ start_of entry)
+    pub allocated : u.allocated ≤ s.w.allocated + 1
+    pub returned : u.returned ≤ s.w.returned + 1
 
   -- the start stands at the first point of a block
-  pub away-later : (u : Work) (n : ℕ) → u.top.at.index ≡ n + 1 → Away u
-  away-later u n e q = let z : u.top.at.index ≡ 0 = ap (λ (g : Config). g.top.at.index) q in omega (arith, e, z)
+  pub follows-at : (u : Work) (n : ℕ) → u.top.at.index ≡ n + 1 → u.allocated ≤ s.w.allocated + 1 → u.returned ≤ s.w.returned + 1 → Follows u
+  follows-at u n e a q = record { no_start = λ z. let i : u.top.at.index ≡ 0 = ap (λ (g : Config). g.top.at.index) z in omega (arith, e, i); allocated = a; returned = q }
 
-  pub move-fits : (item : Option Item) (u : Work) → IsWork s.m s.t s.live entry k r (ts ++ gives_some item) u → Away u
-      → IsSomeItem s.m s.t (bounds_of s.m s.t s.live entry k r u) ts u.held item → IsMove s.m s.t s.live entry k r ts item (move_to s.live u)
+  pub move-fits : (item : Option Item) (u : Work) → IsWork s.m s.t s.live entry k r (ts ++ gives_some item) u → Follows u
+      → IsSomeItem s.m s.t (bounds_of s.m s.t s.live entry k r u) ts u.held item → IsMove s.m s.t s.live entry k r ts s.w.allocated s.w.returned item (move_to s.live u)
   move-fits item u h a i = record {
     configuration = is-configuration s.m s.t s.live entry k r (ts ++ gives_some item) u h;
-    no_start = a;
+    no_start = a.no_start;
+    allocated_more = a.allocated;
+    returned_more = a.returned;
     arguments = fills s.m s.t s.live entry k r (ts ++ gives_some item) u h;
     number = counts s.m s.t s.live entry k r (ts ++ gives_some item) u h;
     item_fits = i;
   }
 
-  pub no-item : (u : Work) → IsWork s.m s.t s.live entry k r ts u → Away u → IsMove s.m s.t s.live entry k r ts None (move_to s.live u)
+  pub no-item : (u : Work) → IsWork s.m s.t s.live entry k r ts u → Follows u → IsMove s.m s.t s.live entry k r ts s.w.allocated s.w.returned None (move_to s.live u)
   no-item u h a = move-fits None u (subst (λ us. IsWork s.m s.t s.live entry k r us u) (sym (append-nil ts)) h) a tt
 
-  one-move : (item : Option Item) (mv : Move) → IsMove s.m s.t s.live entry k r ts item mv → GoesOn s.m s.t s.live entry k r ts (mv ∷ []) item One
+  one-move : (item : Option Item) (mv : Move) → IsMove s.m s.t s.live entry k r ts s.w.allocated s.w.returned item mv → GoesOn s.m s.t s.live entry k r ts s.w.allocated s.w.returned (mv ∷ []) item One
   one-move item mv h = record {
-    moves_fit = All-cons (IsMove s.m s.t s.live entry k r ts item) mv [] h (All-nil (IsMove s.m s.t s.live entry k r ts item));
+    moves_fit = All-cons (IsMove s.m s.t s.live entry k r ts s.w.allocated s.w.returned item) mv [] h (All-nil (IsMove s.m s.t s.live entry k r ts s.w.allocated s.w.returned item));
     choice_fits = refl;
     agree = λ i j a b ha hb e. ap (λ (mv : Move). mv.args) (sym (only mv i a ha) ∙ only mv j b hb);
   }
 
-  pub goes-good : (u : Work) → IsWork s.m s.t s.live entry k r ts u → Away u → IsGood (goes s u)
+  pub goes-good : (u : Work) → IsWork s.m s.t s.live entry k r ts u → Follows u → IsGood (goes s u)
   goes-good u h a = one-move None (move_to s.live u) (no-item u h a)
 
-  pub kept-good : (i : Item) (u : Work) → IsWork s.m s.t s.live entry k r (ts ++ gives i) u → Away u
+  pub kept-good : (i : Item) (u : Work) → IsWork s.m s.t s.live entry k r (ts ++ gives i) u → Follows u
       → IsItem s.m s.t (bounds_of s.m s.t s.live entry k r u) ts u.held i → IsGood (kept s i u)
   kept-good i u h a q = one-move (Some i) (move_to s.live u) (move-fits (Some i) u h a q)
 
@@ -137,7 +142,7 @@ module _ (s : Setting) (entry : FuncId) (k r : ℕ) (ts : List (Option Ty)) wher
     passes ph us g h = advanced us s.w.top.names s.w.allocated s.w.returned s.w.held ph g now.top.rises (names-later here us g) now.held now.ordered h
 
     pub passed-good : IsGood (goes s (passed s))
-    passed-good = goes-good (passed s) (passes s.w.phase ts (same-bounds here ts) now.phase) (away-later (passed s) s.w.top.at.index refl)
+    passed-good = goes-good (passed s) (passes s.w.phase ts (same-bounds here ts) now.phase) (follows-at (passed s) s.w.top.at.index refl (omega arith) (omega arith))
 
     module _ (x : Option LocalId) (u : Ty) (name : Named now.function x u) where
       -- a result is bound
@@ -152,7 +157,7 @@ module _ (s : Setting) (entry : FuncId) (k r : ℕ) (ts : List (Option Ty)) wher
       binds us g a h = advanced us (put_result x a s.w.top.names) s.w.allocated s.w.returned s.w.held s.w.phase g (bound-rises a) (bound-names here us g a h) now.held now.ordered now.phase
 
       pub bound-good : (a : Val) → IsOperand s.m s.t here ts u a → IsGood (goes s (bound s x a))
-      bound-good a h = goes-good (bound s x a) (binds ts (same-bounds here ts) a h) (away-later (bound s x a) s.w.top.at.index refl)
+      bound-good a h = goes-good (bound s x a) (binds ts (same-bounds here ts) a h) (follows-at (bound s x a) s.w.top.at.index refl (omega arith) (omega arith))
 
       pub known-good : (v : Value) → IsValue s.m here u v → IsGood (gives_known s x v)
       known-good v h = bound-good (Known v) h
@@ -162,7 +167,7 @@ module _ (s : Setting) (entry : FuncId) (k r : ℕ) (ts : List (Option Ty)) wher
         pub dynamic-good : IsItem s.m s.t here ts s.w.held i → IsGood (gives_dynamic s x i)
         dynamic-good h =
             let w = binds (ts ++ (Some u ∷ [])) (more-types here ts (Some u ∷ [])) (Dynamic s.fresh) (vary, seam ts (Some u) [] s.fresh.0 fresh) in
-            kept-good i (bound s x (Dynamic s.fresh)) (subst (λ us. IsWork s.m s.t s.live entry k r (ts ++ us) (bound s x (Dynamic s.fresh))) (sym e) w) (away-later (bound s x (Dynamic s.fresh)) s.w.top.at.index refl) h
+            kept-good i (bound s x (Dynamic s.fresh)) (subst (λ us. IsWork s.m s.t s.live entry k r (ts ++ us) (bound s x (Dynamic s.fresh))) (sym e) w) (follows-at (bound s x (Dynamic s.fresh)) s.w.top.at.index refl (omega arith) (omega arith)) h
 
         pub kept-if-good : (ok : Bool) → (ok ≡ true → IsItem s.m s.t here ts s.w.held i) → IsGood (kept_if s x ok i)
         kept-if-good true h = dynamic-good (h refl)

@@ -220,7 +220,7 @@ module _ (s : Setting) (entry : FuncId) (limit : ℕ) (numbered : Numbered s.m) 
 pub keeps-configurations : (m : Module) (limit : ℕ) (t : Target) (live : Point → LocalId → Bool) (entry : FuncId) (g : Config) → Numbered m → Typed m limit → ClassTellsTypes → WordsTellTypes
     → ((f : Function) → slice_get m.funcs entry.0 ≡ Some f → IsCodeType f.ret)
     → IsConfiguration m t live entry (required_qubits m limit) (required_results m limit) g
-    → IsTurn m t live entry (required_qubits m limit) (required_results m limit) (dynamic_types m g) (static_step m t live g)
+    → IsTurn m t live entry (required_qubits m limit) (required_results m limit) (dynamic_types m g) g.allocated g.returned (static_step m t live g)
 unfolding static_step
 keeps-configurations m limit t live entry g numbered typed class_law word_law codes h =
     let now = opens m t live entry (required_qubits m limit) (required_results m limit) g h in

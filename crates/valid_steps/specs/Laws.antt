@@ -36,4 +36,5 @@ StepsKeepConfigurations =
     → Typed m limit
     → entry_of m ≡ Some e
     → IsConfiguration m t live (entry_id e) (required_qubits m limit) (required_results m limit) g
-    → IsTurn m t live (entry_id e) (required_qubits m limit) (required_results m limit) (dynamic_types m g) (static_step m t live g)
+    → IsTurn m t live (entry_id e) (required_qubits m limit) (required_results m limit) (dynamic_types m g) g.allocated g.returned
+    (static_step m t live g)

@@ -1,5 +1,5 @@
 -- What a static step gives that goes by the types of the module.
-use Rattle.std.specs.Prelude.{◌≡◌, ℕ, ⊤, Bool, Option, Some, List, ◌++◌, length, slice_get}
+use Rattle.std.specs.Prelude.{◌≡◌, ℕ, ◌+◌, ◌≤◌, ⊤, Bool, Option, Some, List, ◌++◌, length, slice_get}
 use Rattle.std.specs.List.{All}
 use Rattle.ir_module.specs.declared.places.Point.{Point}
 use Rattle.ir_module.specs.declared.tree.Module.{Module}
@@ -23,13 +23,17 @@ abbrev pub AgreeOnArguments : List Move → Type 0
 AgreeOnArguments moves =
     (i j : ℕ) (a b : Move) → slice_get moves i ≡ Some a → slice_get moves j ≡ Some b → a.to ≡ b.to → a.args ≡ b.args
 
--- of a module for a target, by the names that are live, the number of the entry and the required numbers of qubits and results,
--- where the Dynamic names of the configuration have these types
-module _ (m : Module) (t : Target) (live : Point → LocalId → Bool) (entry : FuncId) (qubits results : ℕ) (ts : List (Option Ty)) where
+-- Of a module for a target, by the names that are live, the number of the entry and the required numbers of qubits and results. The
+-- Dynamic names of the configuration have these types, and so many qubits were allocated and results returned.
+module _ (m : Module) (t : Target) (live : Point → LocalId → Bool) (entry : FuncId) (qubits results : ℕ) (ts : List (Option Ty))
+    (allocated returned : ℕ) where
   pub record IsMove (item : Option Item) (mv : Move) : Type 0 where
     -- it leads to a configuration of the module, which isn't the start
     pub configuration : IsConfiguration m t live entry qubits results mv.to
     pub no_start : ¬ (mv.to ≡ start_of entry)
+    -- with at most one allocation and one returned result more
+    pub allocated_more : mv.to.allocated ≤ allocated + 1
+    pub returned_more : mv.to.returned ≤ returned + 1
     -- it brings a value of its type for each Dynamic name there: one of before, or the item's own
     pub arguments : Fill (ts ++ gives_some item) mv.args (dynamic_types m mv.to)
     pub number : length mv.args ≡ dynamics_of mv.to

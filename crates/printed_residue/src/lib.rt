@@ -1,0 +1,4 @@
+//! What a run of the module that a residue is does at each place of the residue.
+#![tactic(auto)]
+
+pub mod laws;

@@ -1,0 +1,4 @@
+pub mod Counting
+pub mod Fusing
+pub mod Ranks
+pub mod Standing

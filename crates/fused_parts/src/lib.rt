@@ -1,0 +1,8 @@
+//! The parts of a lowered program, made of the reachable configurations in path order.
+#![tactic(auto)]
+
+mod flags;
+mod numbers;
+
+pub use flags::joins;
+pub use numbers::Numbers;

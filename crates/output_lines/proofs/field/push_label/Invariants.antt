@@ -1,0 +1,10 @@
+use Rattle.std.proofs.Common.{◌≡◌, ◌++◌, length}
+use Rattle.output_lines.specs.Fields.{before_zero, escaped}
+use Rattle.output_lines.proofs.field.push_label.Given as goal
+
+-- what is written and what is to come are the whole
+abbrev pub invariant-loop-bytes : goal.invariant-loop-bytes
+invariant-loop-bytes l = l.text ++ escaped (before_zero l.bytes) ≡ l.initial.text ++ escaped (before_zero l.fn.bytes)
+
+abbrev pub decreases-loop-bytes : goal.decreases-loop-bytes
+decreases-loop-bytes l = length l.bytes

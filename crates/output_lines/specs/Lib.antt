@@ -1,0 +1,4 @@
+pub mod Fields
+pub mod RecordLines
+pub mod TraceLines
+pub mod Writing

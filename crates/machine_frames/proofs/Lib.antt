@@ -1,0 +1,5 @@
+pub mod Jumps
+pub mod Operands
+pub mod Phis
+pub mod Stacks
+pub mod Widths

@@ -1,0 +1,3 @@
+-- Companions of the code. Nothing here has to be believed.
+pub mod Apt
+pub mod Lists

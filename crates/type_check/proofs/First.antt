@@ -200,7 +200,7 @@ no-id a = absurd (differ-in (other_rules false) refl a)
     differ-in (c ∷ cs) h (inr a) = differ-in cs (and_parts (not (is_id c)) _ h).1 a
 
 module _ (m : Module) (limit : ℕ) where
-  fault-breaks : (s : Spot) (c : TypeCode) → Fault m limit s c → keeps_rule m limit s c ≡ false
+  pub fault-breaks : (s : Spot) (c : TypeCode) → Fault m limit s c → keeps_rule m limit s c ≡ false
   fault-breaks s code.IdRange h = h.1
   fault-breaks s c h = h
 

@@ -4,5 +4,7 @@ pub mod Cases
 pub mod Entries
 pub mod Numbers
 pub mod Operands
+pub mod Phis
 pub mod Search
 pub mod Strip
+pub mod Walk

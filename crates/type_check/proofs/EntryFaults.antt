@@ -1,6 +1,5 @@
 -- The search for faults against the rules on the entry goes along the functions.
-use Rattle.std.proofs.Common.{◌≡◌, ℕ, zero, suc, ◌+◌, Bool, true, false, ◌&&◌, ◌||◌, not, cond, eqb, is_some, Option, None, Some, find, List, [], ◌∷◌, ◌++◌, length, append_assoc, slice_get, refl, sym, ap, ◌∙◌, subst, arith, option_map, option_and_then}
-use Rattle.std.proofs.lemmas.Bool.Decides.{nat_tests}
+use Rattle.std.proofs.Common.{◌≡◌, ℕ, zero, suc, ◌+◌, Bool, true, false, ◌||◌, not, cond, eqb, Option, None, Some, find, List, [], ◌∷◌, ◌++◌, length, append_assoc, slice_get, refl, sym, ap, ◌∙◌, arith, option_map, option_and_then}
 use Rattle.ir_module.specs.declared.places.Point.{Point}
 use Rattle.ir_module.specs.declared.places.Spot.{Spot}
 use Rattle.ir_module.specs.declared.places.Spot.TheVariants as spot
@@ -8,13 +7,13 @@ use Rattle.ir_module.specs.declared.tree.Block.{Block}
 use Rattle.ir_module.specs.declared.tree.Function.{Function}
 use Rattle.ir_module.specs.declared.tree.Module.{Module}
 use Rattle.ir_module.specs.Entry.{Entry, attribute_of, is_entry, entry_of, entry_from}
-use Rattle.ir_module.specs.Spots.{points_from, block_spots, blocks_spots, function_spots, functions_spots, spots}
+use Rattle.ir_module.specs.Spots.{points_from, block_spots, blocks_spots, functions_spots}
 use Rattle.ir_module.specs.Tree.{blocks_of}
 use Rattle.type_check.specs.declared.code.TypeCode.{TypeCode}
 use Rattle.type_check.specs.declared.code.TypeCode.TheVariants as code
 use Rattle.type_check.specs.code.Entries.{entry_breaks, entries_fault}
 use Rattle.type_check.specs.code.Search.{broken, first_at, first_in, entry_rules, entry_fault}
-use Rattle.type_check.specs.Faults.{on_function, is_no_second, where_entry, keeps_rule}
+use Rattle.type_check.specs.Faults.{keeps_rule}
 use Rattle.type_check.specs.Required.{numbers_are_plain, stated_by, stated}
 use Rattle.type_check.specs.Rules.{is_entry_type}
 

@@ -1,5 +1,5 @@
 -- What is seen of the operands of a step, and the rules that it keeps beside, tell the first rule that it breaks.
-use Rattle.std.proofs.Common.{◌≡◌, ℕ, ◌<◌, max, Bool, true, false, ◌&&◌, not, cond, ltb, eqb, is_some, Option, None, Some, if◌then◌else◌, List, [], ◌∷◌, refl, sym, ap, ◌∙◌, arith}
+use Rattle.std.proofs.Common.{◌≡◌, ℕ, Bool, true, false, ◌&&◌, not, Option, None, Some, if◌then◌else◌, List, [], ◌∷◌, refl, sym, ap, ◌∙◌, arith}
 use Rattle.std.proofs.lemmas.Bool.Decides.{nat_tests}
 use Rattle.std.specs.List.{list_all}
 use Rattle.std.specs.Prelude.{nat_lt, ◌==◌}
@@ -16,13 +16,12 @@ use Rattle.ir_module.specs.declared.tree.Term.{Term}
 use Rattle.ir_module.specs.Edges.{edges}
 use Rattle.ir_module.specs.Steps.{Step, PhiAt, InstAt, TermAt}
 use Rattle.ir_module.specs.Tree.{blocks_of}
-use Rattle.type_check.specs.declared.code.TypeCode.{TypeCode}
 use Rattle.type_check.specs.declared.code.TypeCode.TheVariants as code
 use Rattle.type_check.specs.declared.kept.Kept.{Kept}
 use Rattle.type_check.specs.declared.required.Required.{Required}
 use Rattle.type_check.specs.declared.seen.Seen.{Seen}
 use Rattle.type_check.specs.code.Operands.{greater, greatest, nothing, both, seen_one, seen, seen_at}
-use Rattle.type_check.specs.code.Walk.{kept_at, is_below, is_bounded, operands_broken, broken_by, numbers_kept, step_breaks}
+use Rattle.type_check.specs.code.Walk.{kept_at, is_below, is_bounded, broken_by, numbers_kept, step_breaks}
 use Rattle.type_check.specs.Required.{qubit_numbers, result_numbers}
 use Rattle.type_check.specs.Rules.{types_agree, shape_agrees, sources, entries_match, entries_agree, entries_fit, is_first, keeps_first, cases_differ, number_below, numbers_below, operand_known, functions_known}
 use Rattle.type_check.specs.Typing.{operand_has, all_have, wants}

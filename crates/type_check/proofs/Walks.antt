@@ -16,7 +16,7 @@ use Rattle.type_check.specs.declared.code.TypeCode.TheVariants as code
 use Rattle.type_check.specs.declared.required.Required.{Required}
 use Rattle.type_check.specs.code.Search.{broken, first_at, first_in, other_rules, or_else, entry_fault, first_fault}
 use Rattle.type_check.specs.code.Walk.{step_breaks, numbers_kept, steps_fault, blocks_fault, function_breaks, function_fault, functions_fault, module_fault, required_of}
-use Rattle.type_check.specs.Faults.{Typed, IsFirstFault, keeps_rule, on_function}
+use Rattle.type_check.specs.Faults.{Typed, IsFirstFault, keeps_rule}
 use Rattle.type_check.specs.Rules.{types_agree, entries_fit, keeps_first, cases_differ, functions_known, body_has_own_name, constants_have_own_names}
 use Rattle.type_check.proofs.Facts.{step-here, inst-at, phi-at, term-at}
 use Rattle.type_check.proofs.First.{typed, first}

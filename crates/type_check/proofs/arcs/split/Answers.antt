@@ -1,4 +1,4 @@
-use Rattle.std.proofs.Common.{◌≡◌, ◌≤◌, length, subst, sym, ap, ◌∙◌, take, drop}
+use Rattle.std.proofs.Common.{◌≤◌, length, subst, sym, ap, ◌∙◌, take, drop}
 use Rattle.type_check.proofs.Fronts.{lead-within, take-lead, drop-lead}
 use Rattle.type_check.proofs.arcs.split.Goals as goal
 

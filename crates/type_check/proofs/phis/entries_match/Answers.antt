@@ -1,4 +1,4 @@
-use Rattle.std.proofs.Common.{◌≡◌, ap, ◌∙◌}
+use Rattle.std.proofs.Common.{ap, ◌∙◌}
 use Rattle.type_check.specs.code.Arcs.{come_from}
 use Rattle.type_check.proofs.Matches.{matches}
 use Rattle.type_check.proofs.phis.entries_match.Goals as goal

@@ -1,6 +1,6 @@
-use Rattle.std.proofs.Common.{◌≡◌, ap, ◌∙◌, arith}
+use Rattle.std.proofs.Common.{ap, ◌∙◌, arith}
 use Rattle.ir_module.specs.declared.tree.Function.{Function}
-use Rattle.type_check.specs.code.Operands.{both, collected, seen_at, seen_in}
+use Rattle.type_check.specs.code.Operands.{both, collected, seen_in}
 use Rattle.type_check.specs.declared.seen.Seen.{Seen}
 use Rattle.type_check.proofs.SeenLemmas.{nothing_both, collected-more, collected-end}
 use Rattle.type_check.proofs.written.functions_seen.Goals as goal

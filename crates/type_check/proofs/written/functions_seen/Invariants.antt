@@ -1,6 +1,5 @@
 use Rattle.std.proofs.Common.{◌≡◌, length}
-use Rattle.ir_module.specs.declared.tree.Function.{Function}
-use Rattle.type_check.specs.code.Operands.{both, collected, seen_at, seen_in}
+use Rattle.type_check.specs.code.Operands.{both, collected, seen_in}
 use Rattle.type_check.proofs.written.functions_seen.Given as goal
 
 abbrev pub invariant-loop-funcs : goal.invariant-loop-funcs

@@ -1,8 +1,6 @@
-use Rattle.std.proofs.Common.{◌≡◌, Option, None, Some, map, length, ◌+◌, [], ◌∷◌, sym, ap, ◌∙◌}
+use Rattle.std.proofs.Common.{◌≡◌, map, length, ◌+◌, [], ◌∷◌, sym, ap, ◌∙◌}
 use Rattle.std.proofs.lemmas.Result.{IfOk-weaker}
-use Rattle.ir_module.specs.declared.places.Spot.{Spot}
 use Rattle.ir_module.specs.Steps.{PhiAt, InstAt, TermAt, steps_of_block}
-use Rattle.type_check.specs.declared.code.TypeCode.{TypeCode}
 use Rattle.type_check.specs.code.Search.{or_else}
 use Rattle.type_check.specs.code.Walk.{steps_of_walk}
 use Rattle.type_check.proofs.Walks.{block_parts}

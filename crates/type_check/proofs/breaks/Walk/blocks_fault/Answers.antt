@@ -1,4 +1,4 @@
-use Rattle.std.proofs.Common.{◌≡◌, ◌+◌, refl, sym, subst, arith}
+use Rattle.std.proofs.Common.{◌+◌, refl, sym, subst, arith}
 use Rattle.std.proofs.lemmas.Grind.{common_steps}
 use Rattle.ir_module.specs.Tree.{blocks_of}
 use Rattle.type_check.specs.code.Phis.{AreLeft, LeadInto}

@@ -1,4 +1,4 @@
-use Rattle.std.proofs.Common.{◌≡◌, sym, subst, ◌∙◌}
+use Rattle.std.proofs.Common.{sym, subst, ◌∙◌}
 use Rattle.ir_module.specs.Tree.{blocks_of}
 use Rattle.type_check.specs.code.Phis.{AreLeft}
 use Rattle.type_check.proofs.ArcsLeft.{all-left}

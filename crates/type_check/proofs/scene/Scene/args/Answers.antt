@@ -1,4 +1,4 @@
-use Rattle.std.proofs.Common.{◌≡◌, ap, ◌∙◌, arith}
+use Rattle.std.proofs.Common.{ap, ◌∙◌, arith}
 use Rattle.type_check.specs.code.Operands.{both, collected, seen_one}
 use Rattle.type_check.proofs.SeenLemmas.{nothing_both, collected-more, collected-end}
 use Rattle.type_check.proofs.scene.Scene.args.Goals as goal

@@ -1,7 +1,6 @@
 use Rattle.std.proofs.Common.{◌≡◌, length}
-use Rattle.ir_module.specs.declared.tree.Block.{Block}
 use Rattle.ir_module.specs.Steps.{steps_of_block}
-use Rattle.type_check.specs.code.Operands.{both, collected, seen_at, seen_in}
+use Rattle.type_check.specs.code.Operands.{both, collected, seen_at}
 use Rattle.type_check.proofs.scene.Scene.blocks.Given as goal
 
 abbrev pub invariant-loop-blocks : goal.invariant-loop-blocks

@@ -1,4 +1,4 @@
-use Rattle.std.proofs.Common.{◌≡◌, sym, ap, ◌∙◌, arith}
+use Rattle.std.proofs.Common.{sym, ap, ◌∙◌, arith}
 use Rattle.ir_module.specs.declared.tree.Operand.{Operand}
 use Rattle.ir_values.specs.declared.ids.BlockId.{BlockId}
 use Rattle.type_check.specs.code.Operands.{both, collected, seen_one}

@@ -1,7 +1,7 @@
-use Rattle.std.proofs.Common.{◌≡◌, ap, ◌∙◌, arith}
+use Rattle.std.proofs.Common.{ap, ◌∙◌, arith}
 use Rattle.ir_module.specs.declared.tree.Inst.{Inst}
 use Rattle.ir_module.specs.Steps.{InstAt}
-use Rattle.type_check.specs.code.Operands.{both, collected, seen_at, seen_in}
+use Rattle.type_check.specs.code.Operands.{both, collected, seen_at}
 use Rattle.type_check.specs.declared.seen.Seen.{Seen}
 use Rattle.type_check.proofs.SeenLemmas.{nothing_both, collected-more, collected-end}
 use Rattle.type_check.proofs.scene.Scene.insts.Goals as goal

@@ -1,7 +1,6 @@
 use Rattle.std.proofs.Common.{◌≡◌, length}
-use Rattle.ir_module.specs.declared.tree.Inst.{Inst}
 use Rattle.ir_module.specs.Steps.{InstAt}
-use Rattle.type_check.specs.code.Operands.{both, collected, seen_at, seen_in}
+use Rattle.type_check.specs.code.Operands.{both, collected, seen_at}
 use Rattle.type_check.proofs.scene.Scene.insts.Given as goal
 
 abbrev pub invariant-loop-insts : goal.invariant-loop-insts

@@ -1,4 +1,4 @@
-use Rattle.std.proofs.Common.{◌≡◌, ◌&&◌, not, nat_eq, refl, ap, ◌∙◌}
+use Rattle.std.proofs.Common.{◌&&◌, not, nat_eq, refl, ap, ◌∙◌}
 use Rattle.ir_module.specs.Tree.{blocks_of}
 use Rattle.type_check.specs.Rules.{sources, entries_match, entries_agree}
 use Rattle.type_check.proofs.StepBreaks.{phi_keeps}

@@ -1,7 +1,7 @@
-use Rattle.std.proofs.Common.{◌≡◌, ap, ◌∙◌, arith}
+use Rattle.std.proofs.Common.{ap, ◌∙◌, arith}
 use Rattle.ir_module.specs.declared.tree.Phi.{Phi}
 use Rattle.ir_module.specs.Steps.{PhiAt}
-use Rattle.type_check.specs.code.Operands.{both, collected, seen_at, seen_in}
+use Rattle.type_check.specs.code.Operands.{both, collected, seen_at}
 use Rattle.type_check.specs.declared.seen.Seen.{Seen}
 use Rattle.type_check.proofs.SeenLemmas.{nothing_both, collected-more, collected-end}
 use Rattle.type_check.proofs.scene.Scene.phis.Goals as goal

@@ -1,7 +1,6 @@
 use Rattle.std.proofs.Common.{◌≡◌, length}
-use Rattle.ir_module.specs.declared.tree.Phi.{Phi}
 use Rattle.ir_module.specs.Steps.{PhiAt}
-use Rattle.type_check.specs.code.Operands.{both, collected, seen_at, seen_in}
+use Rattle.type_check.specs.code.Operands.{both, collected, seen_at}
 use Rattle.type_check.proofs.scene.Scene.phis.Given as goal
 
 abbrev pub invariant-loop-phis : goal.invariant-loop-phis

@@ -1,0 +1,9 @@
+pub mod Again
+pub mod Builds
+pub mod Instructions
+pub mod Operands
+pub mod Printed
+pub mod Steps
+pub mod Tokens
+pub mod Types
+pub mod Words

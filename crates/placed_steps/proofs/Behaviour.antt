@@ -13,7 +13,7 @@ use Rattle.qir_meaning.specs.Same.{SameBehaviour}
 use Rattle.qir_meaning.specs.State.{State}
 use Rattle.qir_meaning.specs.code.Simulation.{Alike, EndsBy, Meets, Off, Simulation, Tick, Whole, tick, whole_start}
 use Rattle.qir_meaning.specs.code.Steps.{Ended}
-use Rattle.qir_meaning.proofs.Bridge.{Enters, IsKept, relation-keeps-behaviour, relation-simulates}
+use Rattle.qir_meaning.proofs.Bridge.{Enters, IsInvariant, IsKept, Leads, relation-keeps-behaviour, relation-simulates}
 use Rattle.kept_items.specs.declared.item.Choice.{Choice}
 use Rattle.kept_items.specs.declared.target.Target.{Target}
 use Rattle.kept_items.specs.Items.{Did, Gave, Stopped, Senseless, coded, did_some, dynamic}
@@ -33,6 +33,7 @@ use Rattle.placed_steps.specs.Placed.{ArePlaced, DidPlaced, EndsSoon, GoesTo, Tu
 module _ (m l : Module) (t : Target) (live : Point → LocalId → Bool) (ranged : numbers_in_range m ≡ true) (tells : TellsLive m live)
     (N : Naming) (W : ℕ) (count : ℕ) (config : ℕ → Config) (rank : ℕ → ℕ) (Stands : ℕ → List IntValue → State → Whole → Type 0)
     (e e' : Entry) (is_entry : entry_of m ≡ Some e) (is_lowered : entry_of l ≡ Some e')
+    (Holds : Whole → Type 0) (Ends : RunEnd → State → Type 0) (invariant : IsInvariant m Holds Ends)
     (placed : ArePlaced N l W count config rank Stands m t live e e') where
   -- the source is where a configuration describes its state, and l at the place of that configuration
   record Pair (r : ℕ) (w v : Whole) : Type 0 where
@@ -42,6 +43,7 @@ module _ (m l : Module) (t : Target) (live : Point → LocalId → Bool) (ranged
     describes : Describes m live values (config number) w
     stands : Stands number values w.state v
     ranked : rank number ≡ r
+    holds : Holds w
 
   alike-shared : (st st' : State) (v : Whole) → shared st ≡ shared st' → Alike N st v.state → Alike N st' v.state
   alike-shared st st' v h a = record {
@@ -63,9 +65,9 @@ module _ (m l : Module) (t : Target) (live : Point → LocalId → Bool) (ranged
 
   module _ (i : ℕ) (ds : List IntValue) (v : Whole) where
     -- both go on
-    went : (tk : Tick) (mv : Move) (D : List IntValue) (st : State) → Reached m live D mv tk st → GoesTo N l W count config rank Stands i v mv D st
+    went : (tk : Tick) (mv : Move) (D : List IntValue) (st : State) → Leads Holds Ends tk → Reached m live D mv tk st → GoesTo N l W count config rank Stands i v mv D st
         → Meets N l W Pair (rank i) v tk
-    went tk mv D st reached goes =
+    went tk mv D st leads reached goes =
         subst (Meets N l W Pair (rank i) v) (sym reached.goes) (record {
           steps = goes.steps;
           few = goes.few;
@@ -80,6 +82,7 @@ module _ (m l : Module) (t : Target) (live : Point → LocalId → Bool) (ranged
             describes = subst (λ g. Describes m live (map (dynamic D) mv.args) g reached.whole) goes.is_to reached.describes;
             stands = placed.shares goes.to (map (dynamic D) mv.args) st reached.whole.state goes.after (sym reached.same) goes.stands;
             ranked = refl;
+            holds = subst (Leads Holds Ends) reached.goes leads;
           };
         })
 
@@ -89,18 +92,18 @@ module _ (m l : Module) (t : Target) (live : Point → LocalId → Bool) (ranged
     ended tk end st st' off same soon =
         subst (Meets N l W Pair (rank i) v) (sym off) (soon.steps, soon.few, ends-shared soon.steps v end st st' (sym same) soon.ends)
 
-    did-meets : (tk : Tick) (moves : List Move) (choice : Choice) (d : Did) → DidMeets m live tk moves choice ds d
+    did-meets : (tk : Tick) (moves : List Move) (choice : Choice) (d : Did) → Leads Holds Ends tk → DidMeets m live tk moves choice ds d
         → DidPlaced N l W count config rank Stands i v moves choice ds d → Meets N l W Pair (rank i) v tk
-    did-meets tk moves choice (Gave new st) (mv, at, reached) goes = went tk mv (ds ++ new) st reached (goes mv at)
-    did-meets tk moves choice (Stopped stop st) (st', off, same) soon = ended tk (end_of stop) st st' off same soon
-    did-meets tk moves choice Senseless off never = absurd never
+    did-meets tk moves choice (Gave new st) leads (mv, at, reached) goes = went tk mv (ds ++ new) st leads reached (goes mv at)
+    did-meets tk moves choice (Stopped stop st) leads (st', off, same) soon = ended tk (end_of stop) st st' off same soon
+    did-meets tk moves choice Senseless leads off placed = absurd (subst (Leads Holds Ends) off leads)
 
-    turn-meets : (tk : Tick) (st : State) (turn : Turn) → TurnMeets m live tk ds st turn → TurnPlaced N l W count config rank Stands i ds st v turn
+    turn-meets : (tk : Tick) (st : State) (turn : Turn) → Leads Holds Ends tk → TurnMeets m live tk ds st turn → TurnPlaced N l W count config rank Stands i ds st v turn
         → Meets N l W Pair (rank i) v tk
-    turn-meets tk st (Goes moves item choice) h p = did-meets tk moves choice (did_some ds st item) h p
-    turn-meets tk st (Exits c) h p = ended tk (Returned (coded ds c)) st st h refl p
-    turn-meets tk st (Bad why) h p = absurd p
-    turn-meets tk st Lost h p = absurd p
+    turn-meets tk st (Goes moves item choice) leads h p = did-meets tk moves choice (did_some ds st item) leads h p
+    turn-meets tk st (Exits c) leads h p = ended tk (Returned (coded ds c)) st st h refl p
+    turn-meets tk st (Bad why) leads h p = absurd p
+    turn-meets tk st Lost leads h p = absurd p
 
   kept : IsKept N m l W Pair
   kept = record {
@@ -109,9 +112,17 @@ module _ (m l : Module) (t : Target) (live : Point → LocalId → Bool) (ranged
     meets = λ r w v p.
         subst (λ n. Meets N l W Pair n v (tick m w)) p.ranked
         (turn-meets p.number p.values v (tick m w) w.state (static_step m t live (config p.number))
+        (invariant.kept w p.holds)
         (follows m t live (flows m live tells (results-in m ranged) (phis-in m ranged)) (config p.number) p.values w p.describes)
         (placed.turns p.number p.values w.state v p.inside p.describes.count p.stands));
   }
+
+  -- both are one entry
+  starts : (answers : List Answer) → Holds (whole_start e answers)
+  starts answers = subst (λ x. Holds (whole_start x answers)) (same-entry invariant.entry e (sym invariant.is_entry ∙ is_entry)) (invariant.starts answers)
+    where
+      same-entry : (x y : Entry) → Some x ≡ Some y → x ≡ y
+      same-entry x y h = cc
 
   enters : (answers : List Answer) → Enters l Pair (whole_start e answers) (whole_start e' answers)
   enters answers =
@@ -128,6 +139,7 @@ module _ (m l : Module) (t : Target) (live : Point → LocalId → Bool) (ranged
           describes = subst (λ g. Describes m live [] g (whole_start e answers)) (sym placed.first) (describes-start m live e answers is_entry);
           stands = c.stands;
           ranked = refl;
+          holds = starts answers;
         };
       }
 

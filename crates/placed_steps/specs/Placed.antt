@@ -1,5 +1,5 @@
 -- Where the configurations of a module stand in another module, as far as its behaviour goes by it.
-use Rattle.std.specs.Prelude.{◌≡◌, ℕ, ◌+◌, ◌*◌, ◌<◌, ◌≤◌, Bool, Some, List, [], ◌++◌, length, map, slice_get}
+use Rattle.std.specs.Prelude.{◌≡◌, ℕ, ◌+◌, ◌*◌, ◌<◌, ◌≤◌, ⊤, Bool, Some, List, [], ◌++◌, length, map, slice_get}
 use Rattle.backend_api.specs.declared.operation.Answer.{Answer}
 use Rattle.backend_api.specs.Naming.{Naming}
 use Rattle.ir_module.specs.declared.places.Point.{Point}
@@ -44,12 +44,13 @@ module _ (N : Naming) (l : Module) (W : ℕ) (count : ℕ) (config : ℕ → Con
     pub few : steps < 4
     pub ends : EndsBy N l steps v e st
 
-  -- l does what the item does and goes to the successor that the choice takes, or ends as the item ends the run
+  -- l does what the item does and goes to the successor that the choice takes, or ends as the item ends the run; the items of an
+  -- admitted module's runs have a meaning
   abbrev pub DidPlaced : ℕ → Whole → List Move → Choice → List IntValue → Did → Type 0
   DidPlaced i v moves choice ds (Gave new st) =
       (mv : Move) → slice_get moves (chosen choice (ds ++ new)) ≡ Some mv → GoesTo i v mv (ds ++ new) st
   DidPlaced i v moves choice ds (Stopped stop st) = EndsSoon v (end_of stop) st
-  DidPlaced i v moves choice ds Senseless = ⊥
+  DidPlaced i v moves choice ds Senseless = ⊤
 
   -- l does from v what this step says of configuration i
   abbrev pub TurnPlaced : ℕ → List IntValue → State → Whole → Turn → Type 0

@@ -1,0 +1,4 @@
+pub mod Looking
+pub mod Numbers
+pub mod Bits
+pub mod Behind

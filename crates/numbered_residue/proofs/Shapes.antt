@@ -329,11 +329,11 @@ module _ (r : Residue) (t : Target) (ok : Valid r t) where
   type-not-void ty.Qubit a h = refl
   type-not-void ty.Res a h = refl
   type-not-void ty.Text a h = refl
-  type-not-void (ty.Func ws) a h = refl
+  type-not-void (ty.Func us) a h = refl
 
   pub type-whole : (u : Ty) (a : Val) → val_has (gives_of r) u a ≡ true → is_ty u ≡ true
-  type-whole (ty.Func ws) (Known v) h = cc
-  type-whole (ty.Func ws) (Dynamic d) h = cc
+  type-whole (ty.Func us) (Known v) h = cc
+  type-whole (ty.Func us) (Dynamic d) h = cc
   type-whole ty.Void a h = refl
   type-whole (ty.Int w) a h = refl
   type-whole ty.Double a h = refl

@@ -20,6 +20,13 @@ rank_at (x ∷ y ∷ xs) [] i = 0
 rank_at (x ∷ y ∷ xs) (b ∷ bs) zero = if b then suc (rank_at (y ∷ xs) bs zero) else 0
 rank_at (x ∷ y ∷ xs) (b ∷ bs) (suc i) = rank_at (y ∷ xs) bs i
 
+-- the number of the part that a configuration begins: so many configurations before it end one
+abbrev pub part_number : List Bool → ℕ → ℕ
+part_number bs zero = 0
+part_number [] (suc i) = 0
+part_number (true ∷ bs) (suc i) = part_number bs i
+part_number (false ∷ bs) (suc i) = suc (part_number bs i)
+
 -- One that goes on has one edge, which leads to the next. Every edge of another leads to a configuration that begins a part, and none to
 -- the first.
 pub record Fuses (nodes : List Node) (flags : List Bool) : Type 0 where

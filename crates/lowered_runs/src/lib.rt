@@ -1,0 +1,4 @@
+//! A lowered module behaves as its source.
+#![tactic(auto)]
+
+pub mod laws;

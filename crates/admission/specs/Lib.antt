@@ -1,3 +1,4 @@
 pub mod Admitted
 pub mod Live
+pub mod Stops
 pub mod code

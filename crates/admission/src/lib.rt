@@ -2,6 +2,10 @@
 #![tactic(auto)]
 
 mod checked;
+mod judging;
+mod stop;
 mod tables;
 
 pub use checked::Checked;
+pub use judging::admit;
+pub use stop::AdmitStop;

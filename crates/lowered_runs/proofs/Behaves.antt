@@ -4,12 +4,12 @@ use Rattle.std.specs.Prelude.{slice_get}
 use Rattle.ir_module.specs.Entry.{Entry}
 use Rattle.qir_meaning.specs.Naming.{fixed_naming}
 use Rattle.qir_meaning.specs.Same.{SameBehaviour}
-use Rattle.kept_items.specs.declared.target.Target.TheVariants.{Adaptive}
+use Rattle.kept_items.specs.declared.target.Target.TheVariants.{Adaptive, Base}
 use Rattle.path_search.specs.Explored.{Explored}
 use Rattle.path_search.specs.Paths.{onward}
 use Rattle.placed_steps.proofs.Behaviour.{placed-keeps-behaviour}
 use Rattle.residue.specs.Printed.{printed}
-use Rattle.printed_residue.specs.Laws.{IsGood, ItemsRun, MarksPass, ReturnsRun, StartsRun, TailsRun}
+use Rattle.printed_residue.specs.Laws.{BaseItemsRun, BaseMarksPass, BaseReturnsRun, BaseStartsRun, IsGood, ItemsRun, MarksPass, ReturnsRun, StartsRun, TailsRun}
 use Rattle.static_steps.specs.declared.config.Config.{Config}
 use Rattle.static_steps.specs.declared.turn.Turn.{Turn}
 use Rattle.static_steps.specs.declared.turn.Turn.TheVariants.{Goes, Exits, Bad, Lost}
@@ -24,9 +24,10 @@ use Rattle.valid_steps.specs.Turns.{IsMove, IsTurn}
 use Rattle.valid_steps.specs.Types.{dynamic_types}
 use Rattle.fused_parts.specs.Nodes.{Node}
 use Rattle.fused_parts.proofs.Fusing.{NoneToFirst}
-use Rattle.lowered_runs.specs.Laws.{AdaptiveBehaves, IsAdmitted}
+use Rattle.lowered_runs.specs.Laws.{AdaptiveBehaves, BaseBehaves, IsAdmitted}
 use Rattle.lowered_runs.specs.Made.{IsMade}
 use Rattle.lowered_runs.proofs.First.{first-visited}
+use Rattle.lowered_runs.proofs.BaseJoined as one
 use Rattle.lowered_runs.proofs.Joined.{Stands, all-at, are-placed, config, program, rank}
 use Rattle.lowered_runs.proofs.Lookups.{get-map, same-some}
 
@@ -90,3 +91,32 @@ adaptive-behaves items marks tails returns starts steps holds p caps limit e bud
         (Stands m p.live p.entry p.qubits p.results caps budget nodes shared r good items marks tails returns explored is_made codes fits none W few)
         e t.0 a.is_entry t.2 (WholeFits m K R) _ (invariant m K R (holds m limit a.numbered a.typed))
         (are-placed m p.live p.entry p.qubits p.results caps budget nodes shared r good items marks tails returns explored is_made codes fits none W few t.0 t.2 starts first.0 first.1 e a.entry first.2)))
+
+pub base-behaves : BaseItemsRun → BaseMarksPass → BaseReturnsRun → BaseStartsRun → StepsKeepConfigurations → InvariantHolds → BaseBehaves
+unfolding BaseBehaves InvariantHolds
+base-behaves items marks returns starts steps holds p limit e budget W nodes shared r is_target admitted explored few is_made codes good =
+    let P : Program = one.program p.m p.live p.entry p.qubits p.results budget nodes shared r in
+    let same : p ≡ P = ap (λ t. record { m = p.m; target = t; live = p.live; entry = p.entry; qubits = p.qubits; results = p.results }) is_target in
+    subst (λ t. SameBehaviour p.m (printed r t) (fixed_naming p.qubits p.results) W) (sym is_target)
+    (by-base (subst (λ z. IsAdmitted z limit e) same admitted) (subst (λ z. Explored (search_of z budget) (Carries z) nodes) same explored) (subst (λ z. IsMade z nodes shared r) same is_made) (subst (λ t. IsGood r t) is_target good))
+  where
+    by-base : IsAdmitted (one.program p.m p.live p.entry p.qubits p.results budget nodes shared r) limit e
+        → Explored (search_of (one.program p.m p.live p.entry p.qubits p.results budget nodes shared r) budget) (Carries (one.program p.m p.live p.entry p.qubits p.results budget nodes shared r)) nodes
+        → IsMade (one.program p.m p.live p.entry p.qubits p.results budget nodes shared r) nodes shared r → IsGood r Base
+        → SameBehaviour p.m (printed r Base) (fixed_naming p.qubits p.results) W
+    by-base a explored is_made good =
+        let P : Program = one.program p.m p.live p.entry p.qubits p.results budget nodes shared r in
+        let fits = steps-fit steps P limit e a in
+        let none = none-to-first P budget nodes explored fits in
+        let first = first-visited (search_of P budget) (Carries P) nodes explored in
+        let t = starts r [] good in
+        let m = p.m in
+        let K = required_qubits m limit in
+        let R = required_results m limit in
+        subst (λ k. SameBehaviour m (printed r Base) (fixed_naming k p.results) W) is_made.qubits
+        (subst (λ k. SameBehaviour m (printed r Base) (fixed_naming r.own_qubits k) W) is_made.results
+        (placed-keeps-behaviour m (printed r Base) Base p.live a.numbered.in_range a.live (fixed_naming r.own_qubits r.own_results) W (length nodes)
+        (one.config m p.live p.entry p.qubits p.results budget nodes shared r) (one.rank m p.live p.entry p.qubits p.results budget nodes shared r)
+        (one.Stands m p.live p.entry p.qubits p.results budget nodes shared r good items marks returns explored is_made codes fits none W few t.1 t.3)
+        e t.0 a.is_entry t.2 (WholeFits m K R) _ (invariant m K R (holds m limit a.numbered a.typed))
+        (one.are-placed m p.live p.entry p.qubits p.results budget nodes shared r good items marks returns explored is_made codes fits none W few t.1 t.3 t.0 t.2 starts first.0 first.1 e a.entry first.2)))

@@ -86,7 +86,7 @@ shared-one = record { params = []; lines = []; tail = nowhere }
 
 -- ---- lists
 
-length-joins : (all : List Node) (n : ℕ) (xs : List Node) → length (joins_from all n xs) ≡ length xs
+pub length-joins : (all : List Node) (n : ℕ) (xs : List Node) → length (joins_from all n xs) ≡ length xs
 length-joins all n [] = refl
 length-joins all n (x ∷ xs) = ap suc (length-joins all (suc n) xs)
 
@@ -96,7 +96,7 @@ get-behind [] x rest (suc q) e = absurd (omega (arith, e))
 get-behind (y ∷ pre) x rest zero e = absurd (omega (arith, e))
 get-behind (y ∷ pre) x rest (suc q) e = get-behind pre x rest q (omega (arith, e))
 
-stand-behind : (pre xs rest : List Line) (q : ℕ) → q ≡ length pre → StandFrom (pre ++ (xs ++ rest)) q xs
+pub stand-behind : (pre xs rest : List Line) (q : ℕ) → q ≡ length pre → StandFrom (pre ++ (xs ++ rest)) q xs
 stand-behind pre [] rest q e = tt
 stand-behind pre (x ∷ xs) rest q e = (
   get-behind pre x (xs ++ rest) q e,
@@ -110,7 +110,7 @@ marks-append : (xs ys : List Line) → AllMarks xs → AllMarks ys → AllMarks 
 marks-append [] ys a b = b
 marks-append (x ∷ xs) ys a b = (a.0, marks-append xs ys a.1 b)
 
-all-marks : (g : Config) (o : Option Node) → AllMarks (marks_to g o)
+pub all-marks : (g : Config) (o : Option Node) → AllMarks (marks_to g o)
 all-marks g None = tt
 all-marks g (Some y) = marks-append (parts.made g.allocated y.node.allocated) (parts.freed (parts.let_go g.held y.node.held)) (by-test (nat_lt g.allocated y.node.allocated)) (by-option (parts.let_go g.held y.node.held))
   where
@@ -144,7 +144,7 @@ length-gives (Some (item.Output c args)) = refl
 pub all-at : {A : Type 0} (F : A → Type 0) (xs : List A) (i : ℕ) (x : A) → All F xs → slice_get xs i ≡ Some x → F x
 all-at F xs i x all h = subst F (look-at xs i x x h) (all i x (within xs i x h))
 
-less-more : (a b n : ℕ) → a < b → a < b + n
+pub less-more : (a b n : ℕ) → a < b → a < b + n
 less-more a b n h = omega (arith, h)
 
 less-turn : (a w b n : ℕ) → a < w → a < b + suc n * w
@@ -182,6 +182,13 @@ item-below m t b ts held n (item.Output c args) e h = args-below m t b ts n args
 some-item-below : (m : Module) (t : Target) (b : Bounds) (ts : List (Option Ty)) (held : List ℕ) (n : ℕ) (o : Option Item) → length ts ≡ n → IsSomeItem m t b ts held o → (i : Item) → o ≡ Some i → ItemBelow n i
 some-item-below m t b ts held n None e h i s = cc
 some-item-below m t b ts held n (Some j) e h i s = subst (ItemBelow n) (same-some j i s) (item-below m t b ts held n j e h)
+
+-- the spot of the first
+pub first-is : (nodes xs : List Node) (bs : List Bool) (s0 s : Spot) → slice_get (spots_from nodes xs bs s0) 0 ≡ Some s → s ≡ s0
+first-is nodes [] bs s0 s e = cc
+first-is nodes (a ∷ []) bs s0 s e = cc
+first-is nodes (a ∷ c ∷ xs) [] s0 s e = cc
+first-is nodes (a ∷ c ∷ xs) (b ∷ bs) s0 s e = cc
 
 -- ----
 
@@ -586,12 +593,6 @@ module _ (m : Module) (live : Point → LocalId → Bool) (entry : FuncId) (qubi
 
     -- ---- the start
 
-    first-is : (xs : List Node) (bs : List Bool) (s0 s : Spot) → slice_get (spots_from nodes xs bs s0) 0 ≡ Some s → s ≡ s0
-    first-is [] bs s0 s e = cc
-    first-is (a ∷ []) bs s0 s e = cc
-    first-is (a ∷ c ∷ xs) [] s0 s e = cc
-    first-is (a ∷ c ∷ xs) (b ∷ bs) s0 s e = cc
-
     module _ (e' : Entry) (is_lowered : entry_of l ≡ Some e') (starts : StartsRun) (x0 : Node) (is-first : slice_get nodes 0 ≡ Some x0) where
       comes : (answers : List Answer) → Comes N l W (length nodes) config rank Stands e' answers
       comes answers =
@@ -599,7 +600,7 @@ module _ (m : Module) (live : Point → LocalId → Bool) (entry : FuncId) (qubi
           let same-entry : t.0 ≡ e' = entries t.0 e' (sym t.2 ∙ is_lowered) in
           let go = t.4 [] in
           let sp = spot-there nodes nodes flags first_spot 0 x0 enough is-first in
-          let sp-is = first-is nodes flags first_spot sp.0 sp.1 in
+          let sp-is = first-is nodes nodes flags first_spot sp.0 sp.1 in
           record {
             steps = 1;
             few = omega arith;

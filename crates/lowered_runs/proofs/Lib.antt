@@ -1,4 +1,5 @@
 pub mod Adaptive
+pub mod BaseJoined
 pub mod Behaves
 pub mod First
 pub mod Joined

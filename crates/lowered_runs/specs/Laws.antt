@@ -5,7 +5,7 @@ use Rattle.ir_module.specs.Numbered.{Numbered}
 use Rattle.qir_meaning.specs.Naming.{fixed_naming}
 use Rattle.qir_meaning.specs.Same.{SameBehaviour}
 use Rattle.kept_items.specs.declared.target.Caps.{Caps}
-use Rattle.kept_items.specs.declared.target.Target.TheVariants.{Adaptive}
+use Rattle.kept_items.specs.declared.target.Target.TheVariants.{Adaptive, Base}
 use Rattle.path_search.specs.Explored.{Explored}
 use Rattle.residue.specs.declared.parts.Residue.{Residue}
 use Rattle.residue.specs.Printed.{printed}
@@ -33,6 +33,19 @@ unfoldable pub AdaptiveBehaves : Type 0
 AdaptiveBehaves =
     (p : Program) (caps : Caps) (limit : ℕ) (e : Entry) (budget W : ℕ) (nodes : List Node) (shared : Option ℕ) (r : Residue)
     → p.target ≡ Adaptive caps
+    → IsAdmitted p limit e
+    → Explored (search_of p budget) (Carries p) nodes
+    → length nodes ≤ W
+    → IsMade p nodes shared r
+    → CodesFit nodes
+    → IsGood r p.target
+    → SameBehaviour p.m (printed r p.target) (fixed_naming p.qubits p.results) W
+
+-- the same for the Base Profile
+unfoldable pub BaseBehaves : Type 0
+BaseBehaves =
+    (p : Program) (limit : ℕ) (e : Entry) (budget W : ℕ) (nodes : List Node) (shared : Option ℕ) (r : Residue)
+    → p.target ≡ Base
     → IsAdmitted p limit e
     → Explored (search_of p budget) (Carries p) nodes
     → length nodes ≤ W

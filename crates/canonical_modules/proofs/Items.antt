@@ -1,24 +1,19 @@
 -- The parts of constants, groups, lists and nodes are sentences of the grammar, with the trees of what they print.
-use Rattle.std.specs.Prelude.{◌==◌, ◌&&◌, ◌||◌, not, nat_lt, nat_le, nat_eq, codes, decimal, if◌then◌else◌}
+use Rattle.std.specs.Prelude.{◌==◌, ◌&&◌, ◌||◌, nat_lt, nat_le, codes, decimal}
 use Rattle.std.specs.Char.{is_ascii_digit}
 use Rattle.std.specs.Fmt.{digits}
-use Rattle.std.specs.List.{list_all, flat_map, filter_map}
-use Rattle.std.specs.Option.{option_map}
-use Rattle.std.proofs.Common.{◌≡◌, ℕ, zero, suc, ◌+◌, ◌-◌, ◌*◌, ◌^◌, ◌<◌, ◌≤◌, Bool, true, false, cond, Option, None, Some, List, [], ◌∷◌, ◌++◌, length, map, refl, sym, ap, ◌∙◌, subst, arith, append_assoc, append-nil, pow_mono, pow_pos, pow-suc}
-use Rattle.std.proofs.lemmas.Bool.{and_parts, and_from, cond_both, eqb-true, eqb-false, eq-eqb, ltb-true, lt-ltb, leb-true, leb-false, false≢true}
-use Rattle.grammar.specs.Grammar.{Grammar, has, tok, rep}
+use Rattle.std.specs.List.{list_all, flat_map}
+use Rattle.std.proofs.Common.{◌≡◌, ℕ, zero, suc, ◌+◌, ◌-◌, ◌^◌, ◌<◌, ◌≤◌, Bool, true, false, cond, Option, None, Some, List, [], ◌∷◌, ◌++◌, length, map, refl, sym, ap, ◌∙◌, subst, arith, append_assoc, pow_mono, pow-suc}
+use Rattle.std.proofs.lemmas.Bool.{and_parts, and_from, cond_both, eqb-true, eq-eqb, ltb-true, lt-ltb, leb-true, false≢true}
+use Rattle.grammar.specs.Grammar.{has, tok}
 use Rattle.ir_text.specs.Forms.{begins, is_digits}
-use Rattle.ir_text.specs.declared.tok.Tok.{Tok}
 use Rattle.ir_text.specs.declared.tok.Tok.TheVariants as sort
 use Rattle.ir_module.specs.Numbered.{are_few}
-use Rattle.ir_module.specs.Printable.{name_fits, are_bytes, value_fits, attr_fits, constant_text_fits, part_fits, flag_value_fits, flag_fits}
+use Rattle.ir_module.specs.Printable.{name_fits, are_bytes, value_fits, attr_fits, constant_text_fits, part_fits}
 use Rattle.ir_module.specs.declared.tree.Attr.{Attr}
 use Rattle.ir_module.specs.declared.tree.Constant.{Constant}
-use Rattle.ir_module.specs.declared.tree.Flag.{Flag}
 use Rattle.ir_module.specs.declared.tree.FlagPart.{FlagPart}
 use Rattle.ir_module.specs.declared.tree.FlagPart.TheVariants as part_is
-use Rattle.ir_module.specs.declared.tree.FlagValue.{FlagValue}
-use Rattle.ir_module.specs.declared.tree.FlagValue.TheVariants as value_is
 use Rattle.ir_tokens.specs.Classified.{kind_of, number_of, is_width, other_width, exact_width, padded_width, width_kind, metadata_kind}
 use Rattle.ir_tokens.specs.Decoded.{behind_first, between, decoded}
 use Rattle.ir_tokens.specs.Numbers.{number_in}
@@ -29,10 +24,10 @@ use Rattle.ir_tokens.specs.declared.kind.Kind.{Kind}
 use Rattle.ir_tokens.specs.declared.kind.Kind.TheVariants as kind
 use Rattle.ir_tokens.specs.declared.rule.Rule.TheVariants.{LiteralRange, StringLength}
 use Rattle.ir_tokens.specs.declared.token.Token.{Token}
-use Rattle.ir_grammar.specs.Forms.{one, one_of, commas}
-use Rattle.ir_grammar.specs.Metadata.{in_width, bit_of, bit_part, width_kinds, width_part, integer_part, part, parts, bang_elem, elem, nodes, elems, list_line, node_line}
+use Rattle.ir_grammar.specs.Forms.{one, one_of}
+use Rattle.ir_grammar.specs.Metadata.{in_width, bit_of, bit_part, width_kinds, width_part, integer_part, bang_elem, elem, nodes, elems, list_line, node_line}
 use Rattle.ir_grammar.specs.Module.{type_line, header, bytes_of, sized_bytes, constant_words, alignment, constant_line, setting, attribute, attribute_group}
-use Rattle.ir_grammar.specs.SideRules.{number, unless, numbered, so_long, is_negative, in_range, bits_of_sign}
+use Rattle.ir_grammar.specs.SideRules.{number, unless, is_negative, in_range, bits_of_sign}
 use Rattle.ir_grammar.specs.Words.{local, node, integer_kinds}
 use Rattle.ir_grammar.specs.declared.tree.AttrSyntax.{AttrSyntax}
 use Rattle.ir_grammar.specs.declared.tree.AttrSyntax.TheVariants as attr_syntax
@@ -45,19 +40,19 @@ use Rattle.ir_grammar.specs.declared.tree.PartSyntax.TheVariants as part_syntax
 use Rattle.ir_parts.specs.Parts.{Part, token}
 use Rattle.ir_printer.specs.Canonical.{type_line as type_line_parts, constant_begin, constant_value, constant_line as constant_parts}
 use Rattle.ir_printer.specs.Groups.{attr_value, attr_parts, attrs_parts, group_begin, group_line}
-use Rattle.ir_printer.specs.Metadata.{node_token, node_begin, node_open, node_close, text_parts, wide_int_part, int_parts, flag_part_parts, flag_names, flags_begin, flags_line, value_parts, key_parts, flag_node, list_node}
-use Rattle.ir_printer.specs.Operands.{global_token, bit_part as bit_word, array_parts}
-use Rattle.ir_printer.specs.Pieces.{blank, line_end, sign, word, comma, equals, listed as listed_parts}
+use Rattle.ir_printer.specs.Metadata.{node_token, node_begin, node_open, node_close, text_parts, int_parts, flag_part_parts, flags_begin}
+use Rattle.ir_printer.specs.Operands.{bit_part as bit_word}
+use Rattle.ir_printer.specs.Pieces.{blank, line_end, sign, word, listed as listed_parts}
 use Rattle.ir_printer.specs.Spellings.{quoted, signed_spelling}
 use Rattle.canonical_text.proofs.OperandsGood.{few_bytes}
 use Rattle.canonical_text.proofs.Written.{decimal_digits}
 use Rattle.read_modules.proofs.Each.{Each}
-use Rattle.canonical_syntax.specs.Builds.{IsSpelled, Builds}
+use Rattle.canonical_syntax.specs.Builds.{Builds}
 use Rattle.canonical_syntax.specs.Tells.{name_by, string_by}
 use Rattle.canonical_syntax.proofs.Again.{quoted_again, number_again}
-use Rattle.canonical_syntax.proofs.Builds.{Stand, IsSomeOf, builds_tok, builds_any, builds_one, builds_gap, builds_trail, builds_dep, builds_seq, builds_alone, builds_as, builds_weaker, builds_same, builds_left, builds_right, builds_marked, builds_none, builds_some, builds_rep, builds_commas, behind, before}
+use Rattle.canonical_syntax.proofs.Builds.{Stand, IsSomeOf, builds_tok, builds_any, builds_one, builds_gap, builds_trail, builds_dep, builds_seq, builds_alone, builds_as, builds_weaker, builds_same, builds_left, builds_right, builds_none, builds_some, builds_rep, builds_commas, behind, before}
 use Rattle.canonical_syntax.proofs.Operands.{array_builds}
-use Rattle.canonical_syntax.proofs.Tokens.{local_builds, global_builds, group_builds, Counts, positive_counts, negative_counts, decimal_is, minus_is, ranged_builds}
+use Rattle.canonical_syntax.proofs.Tokens.{global_builds, group_builds, positive_counts, negative_counts, decimal_is, minus_is, ranged_builds}
 use Rattle.canonical_syntax.proofs.Words.{type_word, opaque_word, internal_word, constant_word, attributes_word, true_word, false_word}
 
 -- ---- strings

@@ -1,9 +1,9 @@
 -- Groups and nodes are found by their numbers.
 use Rattle.std.specs.Prelude.{slice_get}
 use Rattle.std.specs.List.{position_from, flat_map, filter_map, cons_option}
-use Rattle.std.specs.Option.{option_and_then}
-use Rattle.std.proofs.Common.{◌≡◌, ℕ, zero, suc, ◌+◌, ◌<◌, ◌≤◌, Bool, true, false, cond, Option, None, Some, List, [], ◌∷◌, ◌++◌, length, map, refl, sym, ap, ◌∙◌, subst, arith, append_assoc, append-nil, rules}
-use Rattle.std.proofs.lemmas.Bool.{cond-false, false≢true, false_from_ne_true}
+use Rattle.std.proofs.Common.{◌≡◌, ℕ, zero, suc, ◌+◌, ◌<◌, ◌≤◌, true, false, cond, Option, None, Some, List, [], ◌∷◌, ◌++◌, length, map, refl, sym, ap, ◌∙◌, subst, arith, append-nil, rules}
+use Rattle.std.proofs.lemmas.Bool.{cond-false, false_from_ne_true}
+use Rattle.std.proofs.lemmas.List.{map-append, length-map}
 use Rattle.ir_values.specs.Equal.{equal_decides}
 use Rattle.ir_grammar.specs.declared.tree.ItemSyntax.{ItemSyntax}
 use Rattle.ir_names.specs.Module.{nothing_written}
@@ -84,14 +84,6 @@ get_within [] rest j l = absurd (omega arith)
 get_within (x ∷ xs) rest zero l = refl
 get_within (x ∷ xs) rest (suc j) l = get_within xs rest j (omega arith)
 
-map_append : {A B : Type 0} (f : A → B) (xs ys : List A) → map f (xs ++ ys) ≡ map f xs ++ map f ys
-map_append f [] ys = refl
-map_append f (x ∷ xs) ys = ap (λ l. f x ∷ l) (map_append f xs ys)
-
-map_length : {A B : Type 0} (f : A → B) (xs : List A) → length (map f xs) ≡ length xs
-map_length f [] = refl
-map_length f (x ∷ xs) = let e = map_length f xs in omega arith
-
 each_mapped : {A B : Type 0} (P : B → Type 0) (f : A → B) (xs : List A) → Each (λ x. P (f x)) xs → Each P (map f xs)
 each_mapped P f [] h = tt
 each_mapped P f (x ∷ xs) h = (h.0, each_mapped P f xs h.1)
@@ -100,14 +92,14 @@ each_mapped P f (x ∷ xs) h = (h.0, each_mapped P f xs h.1)
 pub resolved : (written_by : ItemSyntax → Written) (before mid rest : List ItemSyntax) (n : ℕ) → Each (λ i. written_by i ≡ nothing_written) before → Marks 0 (map written_by mid) → n < length mid
     → (number_of same_written (map written_by (before ++ (mid ++ rest))) (mark n) ≡ Some (length before + n)) × (slice_get (before ++ (mid ++ rest)) (length before + n) ≡ slice_get mid n)
 resolved written_by before mid rest n h k l =
-    let c = map_length written_by mid in
-    let b = map_length written_by before in
+    let c = length-map mid written_by in
+    let b = length-map before written_by in
     let z : 0 + n ≡ n = omega arith in
     let s : 0 + length (map written_by before) + n ≡ length before + n = omega arith in
     let found : position_from (same_written (mark n)) (0 + length (map written_by before)) (map written_by mid ++ map written_by rest) ≡ Some (0 + length (map written_by before) + n) =
     ap (λ j. position_from (same_written (mark j)) (0 + length (map written_by before)) (map written_by mid ++ map written_by rest)) (sym z)
     ∙ found_mark (map written_by mid) (map written_by rest) 0 n (0 + length (map written_by before)) k (omega arith) in (
-      ap (position_from (same_written (mark n)) 0) (map_append written_by before (mid ++ rest) ∙ ap (λ l. map written_by before ++ l) (map_append written_by mid rest))
+      ap (position_from (same_written (mark n)) 0) (map-append written_by before (mid ++ rest) ∙ ap (λ l. map written_by before ++ l) (map-append written_by mid rest))
           ∙ (skipped (map written_by before) (map written_by mid ++ map written_by rest) n 0 (each_mapped (λ w. w ≡ nothing_written) written_by before h) ∙ (found ∙ ap Some s)),
       get_behind before (mid ++ rest) n ∙ get_within mid rest n l,
     )
@@ -125,10 +117,6 @@ filter_append f (x ∷ xs) ys = ap (cons_option (f x)) (filter_append f xs ys) �
 pub filter_none : {A B : Type 0} (f : A → Option B) (xs : List A) → Each (λ x. f x ≡ None) xs → filter_map f xs ≡ []
 filter_none f [] h = refl
 filter_none f (x ∷ xs) h = ap (λ o. cons_option o (filter_map f xs)) h.0 ∙ filter_none f xs h.1
-
-pub flat_append : {A B : Type 0} (f : A → List B) (xs ys : List A) → flat_map f (xs ++ ys) ≡ flat_map f xs ++ flat_map f ys
-flat_append f [] ys = refl
-flat_append f (x ∷ xs) ys = ap (λ l. f x ++ l) (flat_append f xs ys) ∙ sym (append_assoc (f x) (flat_map f xs) (flat_map f ys))
 
 pub flat_none : {A B : Type 0} (f : A → List B) (xs : List A) → Each (λ x. f x ≡ []) xs → flat_map f xs ≡ []
 flat_none f [] h = refl

@@ -1,13 +1,14 @@
 -- What the items of a canonical text stand for.
-use Rattle.std.specs.Prelude.{◌&&◌, ◌||◌, ◌==◌, not, is_some, nat_lt, codes, slice_get}
-use Rattle.std.specs.List.{flat_map, filter_map, cons_option, position_from}
+use Rattle.std.specs.Prelude.{◌&&◌, not, is_some, codes, slice_get}
+use Rattle.std.specs.List.{flat_map, filter_map, cons_option}
 use Rattle.std.specs.Option.{option_map, option_and_then}
-use Rattle.std.proofs.Common.{◌≡◌, ℕ, zero, suc, ◌+◌, ◌<◌, ◌≤◌, Bool, true, false, cond, Option, None, Some, List, [], ◌∷◌, ◌++◌, length, map, refl, sym, ap, ◌∙◌, subst, arith, append_assoc, append-nil}
-use Rattle.std.proofs.lemmas.Bool.{and_parts, and_right, or_from, le-ltb, not_from_true, false≢true}
+use Rattle.std.proofs.Common.{◌≡◌, ℕ, zero, suc, ◌+◌, ◌≤◌, Bool, true, false, cond, Option, None, Some, List, [], ◌∷◌, ◌++◌, length, map, refl, sym, ap, ◌∙◌, subst, arith, append_assoc, append-nil}
+use Rattle.std.proofs.lemmas.Bool.{and_right, or_from, le-ltb}
 use Rattle.std.proofs.lemmas.List.{length-append}
+use Rattle.std.proofs.lemmas.List.Concat.{flat_map-append}
 use Rattle.ir_values.specs.Calls.{same_text}
 use Rattle.ir_values.specs.declared.name.Name.{Name}
-use Rattle.ir_module.specs.Numbered.{are_distinct, global_names, names_are_distinct}
+use Rattle.ir_module.specs.Numbered.{are_distinct, global_names}
 use Rattle.ir_module.specs.declared.tree.Attr.{Attr}
 use Rattle.ir_module.specs.declared.tree.Constant.{Constant}
 use Rattle.ir_module.specs.declared.tree.Flag.{Flag}
@@ -17,7 +18,6 @@ use Rattle.ir_module.specs.declared.tree.FlagValue.{FlagValue}
 use Rattle.ir_module.specs.declared.tree.FlagValue.TheVariants as value_is
 use Rattle.ir_module.specs.declared.tree.Function.{Function}
 use Rattle.ir_module.specs.declared.tree.Module.{Module}
-use Rattle.ir_tokens.specs.Numbers.{value_of as number_value}
 use Rattle.ir_tokens.specs.Spelled.{name_at, spelling_at, string_at}
 use Rattle.ir_tokens.specs.declared.token.Token.{Token}
 use Rattle.ir_grammar.specs.SideRules.{number, bits_of_sign}
@@ -30,28 +30,25 @@ use Rattle.ir_grammar.specs.declared.tree.ItemSyntax.TheVariants as item_syntax
 use Rattle.ir_grammar.specs.declared.tree.PartSyntax.{PartSyntax}
 use Rattle.ir_grammar.specs.declared.tree.PartSyntax.TheVariants as part_syntax
 use Rattle.ir_names.specs.Faults.{fault, fault_if, unknown}
-use Rattle.ir_names.specs.Functions.{attr_of, attrs_in, group_attrs, function_faults, function_of}
-use Rattle.ir_names.specs.Instructions.{group_faults}
-use Rattle.ir_names.specs.Items.{global_duplicate, group_duplicate, item_faults, behind, items_faults, constant_in, function_in, function_name_in}
-use Rattle.ir_names.specs.Metadata.{flag_nodes, listed, elems_in, node_of, part_of, parts_in, value_of, flag_with, flag_of, listed_flag, flags_of, node_use_faults, elem_faults, own_faults, node_faults}
+use Rattle.ir_names.specs.Functions.{attr_of, attrs_in}
+use Rattle.ir_names.specs.Items.{item_faults, behind, items_faults, constant_in, function_in, function_name_in}
+use Rattle.ir_names.specs.Metadata.{flag_nodes, listed, elems_in, node_of, part_of, parts_in, value_of, flag_with, flag_of, listed_flag, node_use_faults, elem_faults, own_faults}
 use Rattle.ir_names.specs.Module.{written, nothing_written, group_in, node_in, constants_of, size_of, told, start, faults_of, module_of}
 use Rattle.ir_names.specs.Sense.{Sense, number_of, is_before, item_at}
 use Rattle.ir_names.specs.code.Names.{same_name as equal_names, same_written}
 use Rattle.ir_names.specs.declared.before.Before.{Before}
-use Rattle.ir_names.specs.declared.fault.Fault.{Fault}
 use Rattle.ir_names.specs.declared.fault.NameCode.TheVariants.{Duplicate, BadFlag}
-use Rattle.ir_names.specs.declared.numbers.Written.{Written}
 use Rattle.ir_printer.specs.Groups.{groups_of}
 use Rattle.ir_printer.specs.Metadata.{behind_value}
 use Rattle.read_modules.proofs.Each.{Each, Each-weaker, Each-append}
 use Rattle.canonical_syntax.specs.Tells.{name_by, string_by}
 use Rattle.canonical_syntax.proofs.Builds.{Stand}
 use Rattle.canonical_syntax.proofs.Instructions.{none_both}
-use Rattle.canonical_names.specs.Functions.{TellsModule, MeansFunction}
-use Rattle.canonical_names.proofs.Meaning.{same_cons}
-use Rattle.canonical_names.proofs.Places.{From, From-parts, from_itself, mapped_get, placed, distinct_left, distinct_right, apart_left, apart_right, same_some}
-use Rattle.canonical_modules.proofs.Items.{IsConstantItem, IsAttr, IsValue, IsGroupItem, IsPart, Cell, part_cell, node_cell, IsCell, IsNodeItem, IsListItem}
-use Rattle.canonical_modules.proofs.Marks.{mark, Marks, none_marked, some_marked, resolved, filter_append, filter_none, flat_append, flat_none}
+use Rattle.canonical_names.specs.Functions.{TellsModule}
+use Rattle.canonical_names.proofs.Printed.{placed_below}
+use Rattle.canonical_names.proofs.Places.{From, From-parts, from_itself, mapped_get, placed, distinct_left, distinct_right, apart_right, same_some}
+use Rattle.canonical_modules.proofs.Items.{IsConstantItem, IsAttr, IsValue, IsGroupItem, IsPart, Cell, part_cell, IsCell, IsNodeItem, IsListItem}
+use Rattle.canonical_modules.proofs.Marks.{mark, Marks, none_marked, resolved, filter_append, filter_none, flat_none}
 use Rattle.canonical_modules.proofs.Whole.{IsFunctionItem, AreGroups, AreNodes, AreFlags, AreItems, value_cell, flag_cells, flags_cells, list_cells, lists_cells, all_cells, count_from, flags_count}
 
 -- ---- sorts of items
@@ -255,11 +252,6 @@ node_at spelling n (d ∷ cs) (i ∷ is) (suc j) c h e =
     let z : n + 1 + j ≡ n + suc j = omega arith in
     (w.0, w.1, subst (λ k. IsNodeItem spelling k c w.0) z w.2)
 
-below_length : {A : Type 0} (xs : List A) (j : ℕ) (x : A) → slice_get xs j ≡ Some x → j < length xs
-below_length [] j x e = absurd (cc)
-below_length (y ∷ xs) zero x e = omega arith
-below_length (y ∷ xs) (suc j) x e = let l = below_length xs j x e in omega arith
-
 both_empty : {A : Type 0} {xs ys : List A} → xs ≡ [] → ys ≡ [] → xs ++ ys ≡ []
 both_empty {ys = ys} e d = ap (λ l. l ++ ys) e ∙ d
 
@@ -358,7 +350,7 @@ module _ (text : List ℕ) (m : Module) (distinct : are_distinct (global_names m
   group_found t n attrs e h =
       let k = groups_marked sp 0 (groups_of m) it.groups it.are_groups in
       let c = k.1 in
-      let b = below_length (groups_of m) n attrs h in
+      let b = placed_below (groups_of m) n attrs h in
       let w = resolved group_in before_groups it.groups it.flags n no_groups_before k.0 (omega arith) in
       let i = group_at sp 0 (groups_of m) it.groups n attrs it.are_groups h in
       let z : 0 + n ≡ n = omega arith in (
@@ -466,9 +458,9 @@ module _ (text : List ℕ) (m : Module) (distinct : are_distinct (global_names m
       let b = flat_none f it.functions (Each-weaker (Not 4) (λ i. f i ≡ []) (no_list sp) it.functions (not_of 4 2 (λ e. absurd (omega arith)) it.functions functions_sort)) in
       let c = flat_none f it.groups (Each-weaker (Not 4) (λ i. f i ≡ []) (no_list sp) it.groups (not_of 4 3 (λ e. absurd (omega arith)) it.groups own_groups_sort)) in
       ap (flat_map f) it.items_are
-      ∙ (flat_append f it.constants (it.functions ++ (it.groups ++ it.flags)) ∙ (ap (λ l. l ++ flat_map f (it.functions ++ (it.groups ++ it.flags))) a
-      ∙ (flat_append f it.functions (it.groups ++ it.flags) ∙ (ap (λ l. l ++ flat_map f (it.groups ++ it.flags)) b
-      ∙ (flat_append f it.groups it.flags ∙ ap (λ l. l ++ flat_map f it.flags) c)))))
+      ∙ (flat_map-append f it.constants (it.functions ++ (it.groups ++ it.flags)) ∙ (ap (λ l. l ++ flat_map f (it.functions ++ (it.groups ++ it.flags))) a
+      ∙ (flat_map-append f it.functions (it.groups ++ it.flags) ∙ (ap (λ l. l ++ flat_map f (it.groups ++ it.flags)) b
+      ∙ (flat_map-append f it.groups it.flags ∙ ap (λ l. l ++ flat_map f it.flags) c)))))
 
   abbrev list_place : ℕ
   list_place = length (aside ∷ aside ∷ (it.constants ++ (it.functions ++ it.groups)))
@@ -502,7 +494,7 @@ module _ (text : List ℕ) (m : Module) (distinct : are_distinct (global_names m
     node_found t n c e h =
         let k = nodes_marked sp 0 all nodes are_nodes in
         let d = k.1 in
-        let b = below_length all n c h in
+        let b = placed_below all n c h in
         let w = resolved node_in before_nodes nodes [] n not_nodes k.0 (omega arith) in
         let i = node_at sp 0 all nodes n c are_nodes h in
         let z : 0 + n ≡ n = omega arith in

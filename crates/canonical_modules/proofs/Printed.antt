@@ -1,7 +1,7 @@
 -- The canonical text of a printable module is a sentence of the grammar, whose tree spells the module.
-use Rattle.std.specs.Prelude.{◌&&◌, nat_le, slice_get}
+use Rattle.std.specs.Prelude.{slice_get}
 use Rattle.std.specs.List.{list_all}
-use Rattle.std.proofs.Common.{◌≡◌, ℕ, zero, suc, ◌≤◌, Bool, true, Option, None, Some, List, [], ◌∷◌, ◌++◌, map, refl, sym, ap, ◌∙◌, subst, arith}
+use Rattle.std.proofs.Common.{◌≡◌, ℕ, zero, suc, Bool, true, Option, None, Some, List, [], ◌∷◌, ◌++◌, map, refl, sym, subst, arith}
 use Rattle.std.proofs.lemmas.Bool.{and_parts, and_from}
 use Rattle.grammar.specs.Grammar.{has, rep}
 use Rattle.grammar.specs.Language.{Derives}
@@ -12,7 +12,6 @@ use Rattle.ir_module.specs.declared.tree.Function.{Function}
 use Rattle.ir_module.specs.declared.tree.Module.{Module}
 use Rattle.ir_tokens.specs.Spelled.{spelling_at}
 use Rattle.ir_tokens.specs.Tokens.{tokens}
-use Rattle.ir_tokens.specs.Whole.{IsWhole}
 use Rattle.ir_tokens.specs.declared.kind.Kind.TheVariants as kind
 use Rattle.ir_tokens.specs.declared.token.Token.{Token}
 use Rattle.ir_grammar.specs.Module.{item, module_text}
@@ -20,7 +19,7 @@ use Rattle.ir_grammar.specs.declared.tree.ItemSyntax.{ItemSyntax}
 use Rattle.ir_names.specs.Module.{Names}
 use Rattle.ir_parts.specs.Parts.{tokens_of, spellings_of}
 use Rattle.ir_printer.specs.Canonical.{canonical, module_parts}
-use Rattle.ir_printer.specs.Groups.{number_from, with_list, groups_from, groups_of}
+use Rattle.ir_printer.specs.Groups.{number_from, with_list, groups_from}
 use Rattle.read_modules.proofs.Each.{Each}
 use Rattle.canonical_names.proofs.FunctionParts.{FitFunction}
 use Rattle.canonical_names.proofs.Printed.{groups_few, fit_function}

@@ -1,8 +1,8 @@
 -- The parts of a printable module are items of the grammar, with trees of what they print.
-use Rattle.std.specs.Prelude.{◌==◌, ◌&&◌, nat_lt, nat_le, codes}
+use Rattle.std.specs.Prelude.{◌&&◌, nat_lt, nat_le, codes}
 use Rattle.std.specs.List.{list_all, flat_map}
-use Rattle.std.proofs.Common.{◌≡◌, ℕ, ◌+◌, ◌*◌, ◌^◌, ◌<◌, ◌≤◌, Bool, true, false, Option, None, Some, List, [], ◌∷◌, ◌++◌, length, map, refl, sym, ap, ◌∙◌, subst, arith, append_assoc, append-nil}
-use Rattle.std.proofs.lemmas.Bool.{and_parts, and_from, lt-ltb, ltb-true, leb-true}
+use Rattle.std.proofs.Common.{◌≡◌, ℕ, ◌+◌, ◌*◌, ◌^◌, ◌<◌, ◌≤◌, true, List, [], ◌∷◌, ◌++◌, length, map, refl, sym, ap, ◌∙◌, subst, arith, append_assoc, append-nil}
+use Rattle.std.proofs.lemmas.Bool.{and_parts, and_from, lt-ltb, leb-true}
 use Rattle.std.proofs.lemmas.List.{length-append}
 use Rattle.grammar.specs.Grammar.{Grammar, rep}
 use Rattle.grammar.specs.Language.{Derives, many}
@@ -18,21 +18,21 @@ use Rattle.ir_module.specs.declared.tree.Function.{Function}
 use Rattle.ir_module.specs.declared.tree.Module.{Module}
 use Rattle.ir_tokens.specs.Tokens.{tokens}
 use Rattle.ir_tokens.specs.declared.token.Token.{Token}
-use Rattle.ir_grammar.specs.Functions.{declaration, definition}
-use Rattle.ir_grammar.specs.Module.{header, function, metadata, item}
+use Rattle.ir_grammar.specs.Module.{function, metadata, item}
 use Rattle.ir_grammar.specs.declared.tree.ItemSyntax.{ItemSyntax}
 use Rattle.ir_grammar.specs.declared.tree.ItemSyntax.TheVariants as item_syntax
-use Rattle.ir_parts.specs.Parts.{Part, gap}
-use Rattle.ir_printer.specs.Canonical.{type_line, type_lines, constant_line, constant_lines, section, tail_parts, module_parts}
-use Rattle.ir_printer.specs.Functions.{function_parts, function_section}
-use Rattle.ir_printer.specs.Groups.{groups_of, group_line, group_lines}
-use Rattle.ir_printer.specs.Metadata.{node_token, node_begin, node_open, node_close, text_parts, int_parts, flag_part_parts, flag_names, flags_begin, flags_line, value_parts, behind_value, key_parts, flag_node, flag_lines, list_node, list_line, list_lines, nodes_lines, flags_sections}
-use Rattle.ir_printer.specs.Pieces.{line_end, comma, listed as listed_parts}
+use Rattle.ir_parts.specs.Parts.{Part}
+use Rattle.ir_printer.specs.Canonical.{type_line, type_lines, constant_line, constant_lines, section, module_parts}
+use Rattle.ir_printer.specs.Functions.{function_section}
+use Rattle.ir_printer.specs.Groups.{groups_of, group_lines}
+use Rattle.ir_printer.specs.Metadata.{node_token, node_begin, node_open, node_close, flag_part_parts, flag_names, flags_begin, flags_line, value_parts, behind_value, key_parts, flag_node, flag_lines, list_node, list_line, list_lines, nodes_lines, flags_sections}
+use Rattle.ir_printer.specs.Pieces.{comma, listed as listed_parts}
 use Rattle.read_modules.proofs.Each.{Each}
-use Rattle.canonical_syntax.specs.Builds.{Reads, Builds}
-use Rattle.canonical_syntax.proofs.Builds.{Stand, reads_append, builds_gap, builds_seq, builds_as, builds_weaker, builds_same, builds_left, builds_right, builds_rep}
+use Rattle.canonical_syntax.specs.Builds.{Builds}
+use Rattle.canonical_syntax.proofs.Builds.{Stand, reads_append, builds_gap, builds_as, builds_weaker, builds_same, builds_left, builds_right, builds_rep}
 use Rattle.canonical_names.specs.Functions.{MeansFunction}
 use Rattle.canonical_names.proofs.FunctionParts.{FitFunction, function_builds}
+use Rattle.canonical_names.proofs.Printed.{all_append}
 use Rattle.canonical_modules.proofs.Items.{IsConstantItem, IsGroupItem, Cell, part_cell, node_cell, cell_parts, cell_fits, IsNodeItem, IsListItem, qubit_line, result_line, constant_builds, group_line_builds, node_line_builds, list_line_builds}
 
 -- ---- repetitions one after another
@@ -271,10 +271,6 @@ lists_few (x ∷ xs) = own x.value (lists_few xs)
     own (value_is.One p) h = omega arith
     own (value_is.List ps) h = omega arith
 
-all_fit : (test : List Cell → Bool) (cs ds : List (List Cell)) → list_all test cs ≡ true → list_all test ds ≡ true → list_all test (cs ++ ds) ≡ true
-all_fit test [] ds h k = k
-all_fit test (c ∷ cs) ds h k = let p = and_parts (test c) (list_all test cs) h in and_from (test c) (list_all test (cs ++ ds)) p.0 (all_fit test cs ds p.1 k)
-
 -- no items, or the list of the flags and their nodes
 abbrev pub AreFlags : (Token → List ℕ) → List Flag → List ItemSyntax → Type 0
 AreFlags spelling [] zs = zs ≡ []
@@ -294,7 +290,7 @@ module _ {spelling : Token → List ℕ} where
       let lists = lists_few (x ∷ xs) in
       let flags = flags_count (length (x ∷ xs)) (x ∷ xs) in
       let count = length-append (flags_cells (length (x ∷ xs)) (x ∷ xs)) (lists_cells (x ∷ xs)) in
-      let fit = all_fit (λ c. list_all cell_fits c) (flags_cells (length (x ∷ xs)) (x ∷ xs)) (lists_cells (x ∷ xs)) (flags_cells_fit (length (x ∷ xs)) (x ∷ xs) (omega arith) h) (lists_cells_fit (x ∷ xs) h) in
+      let fit = all_append (λ c. list_all cell_fits c) (flags_cells (length (x ∷ xs)) (x ∷ xs)) (lists_cells (x ∷ xs)) (flags_cells_fit (length (x ∷ xs)) (x ∷ xs) (omega arith) h) (lists_cells_fit (x ∷ xs) h) in
       builds_gap (codes "\n") (builds_weaker (items_append (one_item (flags_line_builds (x ∷ xs) (omega arith)))
       (builds_gap (codes "\n") (builds_same (all_are (x ∷ xs)) (nodes_build 0 (all_cells (x ∷ xs)) (omega arith) fit)))) joined)
     where

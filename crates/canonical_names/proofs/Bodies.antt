@@ -1,11 +1,10 @@
 -- The parts of a block, and of the blocks of a function, are sentences of the grammar, with the trees of their lines.
 use Rattle.std.specs.Prelude.{codes}
-use Rattle.std.specs.List.{list_all, flat_map}
-use Rattle.std.proofs.Common.{◌≡◌, ℕ, true, Option, None, Some, List, [], ◌∷◌, ◌++◌, map, refl, sym, ap, ◌∙◌, subst, append_assoc, append-nil}
-use Rattle.grammar.specs.Grammar.{Grammar}
+use Rattle.std.specs.List.{flat_map}
+use Rattle.std.proofs.Common.{◌≡◌, ℕ, true, List, [], ◌∷◌, ◌++◌, map, refl, sym, ap, ◌∙◌, subst, append_assoc, append-nil}
 use Rattle.ir_text.specs.declared.tok.Tok.TheVariants as sort
 use Rattle.ir_module.specs.Printable.{name_fits}
-use Rattle.ir_module.specs.Steps.{Step, PhiAt, InstAt, TermAt, steps_of_block}
+use Rattle.ir_module.specs.Steps.{PhiAt, InstAt, TermAt, steps_of_block}
 use Rattle.ir_module.specs.declared.tree.Block.{Block}
 use Rattle.ir_module.specs.declared.tree.Function.{Function}
 use Rattle.ir_module.specs.declared.tree.Inst.{Inst}
@@ -19,7 +18,6 @@ use Rattle.ir_grammar.specs.declared.tree.LineSyntax.{LineSyntax}
 use Rattle.ir_grammar.specs.declared.tree.LinesSyntax.{LinesSyntax}
 use Rattle.ir_grammar.specs.declared.tree.PhiSyntax.{PhiSyntax}
 use Rattle.ir_grammar.specs.declared.tree.TermSyntax.{TermSyntax}
-use Rattle.ir_parts.specs.Parts.{Part}
 use Rattle.ir_printer.specs.Functions.{indented, phi_line, inst_line, steps_parts, block_parts, further_block, blocks_parts}
 use Rattle.ir_printer.specs.Instructions.{term_parts}
 use Rattle.ir_printer.specs.Pieces.{line_end, sign}

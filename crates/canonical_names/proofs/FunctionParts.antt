@@ -1,9 +1,9 @@
 -- The parts of a function are a sentence of the grammar, and its tree stands for the function.
-use Rattle.std.specs.Prelude.{◌==◌, ◌&&◌, ◌||◌, not, is_none, nat_lt, nat_le, codes, slice_get}
+use Rattle.std.specs.Prelude.{◌==◌, ◌||◌, not, is_none, nat_lt, codes}
 use Rattle.std.specs.List.{list_all, flat_map}
 use Rattle.std.specs.Option.{option_to_list}
-use Rattle.std.proofs.Common.{◌≡◌, ℕ, zero, suc, ◌+◌, ◌^◌, ◌<◌, ◌≤◌, Bool, true, false, Option, None, Some, List, [], ◌∷◌, ◌++◌, length, take, map, refl, sym, ap, ◌∙◌, subst, arith, append_assoc, append-nil}
-use Rattle.std.proofs.lemmas.Bool.{and_parts, and_from, eqb-true, le-ltb, or_from, not-true, false≢true}
+use Rattle.std.proofs.Common.{◌≡◌, ℕ, zero, suc, ◌+◌, ◌^◌, ◌<◌, ◌≤◌, true, false, Option, None, Some, List, [], ◌∷◌, ◌++◌, length, take, map, refl, sym, ap, ◌∙◌, subst, arith, append_assoc, append-nil}
+use Rattle.std.proofs.lemmas.Bool.{and_parts, and_from, le-ltb, or_from, false≢true}
 use Rattle.std.proofs.lemmas.List.{length-append}
 use Rattle.grammar.specs.Grammar.{Grammar, ignored, alt}
 use Rattle.ir_text.specs.declared.tok.Tok.TheVariants as sort
@@ -12,9 +12,7 @@ use Rattle.ir_values.specs.declared.name.Name.TheVariants as name_is
 use Rattle.ir_values.specs.declared.ty.Ty.{Ty}
 use Rattle.ir_module.specs.Classes.{parameter_types}
 use Rattle.ir_module.specs.Numbered.{same_name, are_distinct, local_names, is_void, has_block, results_of, defined_once}
-use Rattle.ir_module.specs.Operands.{step_defines}
 use Rattle.ir_module.specs.Printable.{name_fits, type_fits, value_type_fits, ascend_from, are_numbered, declaration_fits}
-use Rattle.ir_module.specs.Steps.{steps_of, steps_of_block}
 use Rattle.ir_module.specs.Tree.{blocks_of, blocks_or_none}
 use Rattle.ir_module.specs.declared.tree.Attr.{Attr}
 use Rattle.ir_module.specs.declared.tree.Block.{Block}
@@ -23,41 +21,38 @@ use Rattle.ir_module.specs.declared.tree.Module.{Module}
 use Rattle.ir_tokens.specs.declared.kind.Kind.TheVariants as kind
 use Rattle.ir_tokens.specs.declared.token.Token.{Token}
 use Rattle.ir_tokens.specs.Tokens.{tokens}
-use Rattle.ir_grammar.specs.Functions.{head, tail, param_of, declared_param, param, params_of, declaration, definition}
+use Rattle.ir_grammar.specs.Functions.{head, tail, declared_param, param, params_of, declaration, definition}
 use Rattle.ir_grammar.specs.Instructions.{groups}
 use Rattle.ir_grammar.specs.SideRules.{number}
 use Rattle.ir_grammar.specs.declared.tree.BlockSyntax.{BlockSyntax}
 use Rattle.ir_grammar.specs.declared.tree.FunctionSyntax.{FunctionSyntax}
 use Rattle.ir_grammar.specs.declared.tree.ParamSyntax.{ParamSyntax}
-use Rattle.ir_grammar.specs.declared.tree.TypeSyntax.{TypeSyntax}
-use Rattle.ir_names.specs.Blocks.{name_or, blocks_faults, blocks_of as blocks_named}
+use Rattle.ir_names.specs.Blocks.{name_or}
 use Rattle.ir_names.specs.Faults.{fault_if}
-use Rattle.ir_names.specs.Functions.{behind_param, params_locals, behind_params, block_locals, body_locals, locals_of, label_name, body_labels, within, inside, group_attrs, param_token, params_faults, body_faults, body_of, inner_faults, inner_of, function_faults, function_of}
-use Rattle.ir_names.specs.Instructions.{duplicate, group_faults}
-use Rattle.ir_names.specs.Sense.{Sense, is_before, number_of}
-use Rattle.ir_names.specs.code.Names.{same_name as equal_names}
-use Rattle.ir_names.specs.declared.fault.Fault.{Fault}
+use Rattle.ir_names.specs.Functions.{behind_param, params_locals, behind_params, body_locals, locals_of, label_name, body_labels, within, inside, group_attrs, param_token, params_faults, body_faults, body_of, inner_faults, inner_of, function_faults, function_of}
+use Rattle.ir_names.specs.Instructions.{group_faults}
+use Rattle.ir_names.specs.Sense.{Sense, is_before}
 use Rattle.ir_names.specs.declared.fault.NameCode.TheVariants.{Duplicate}
 use Rattle.ir_parts.specs.Parts.{Part}
-use Rattle.ir_printer.specs.Functions.{blocks_parts, named_param, nameless_param, params_parts, name_parts, head_parts, declaration_parts, definition_head, definition_parts, body_parts, function_parts}
+use Rattle.ir_printer.specs.Functions.{blocks_parts, named_param, nameless_param, params_parts, name_parts, declaration_parts, definition_parts, body_parts, function_parts}
 use Rattle.ir_printer.specs.Groups.{number_from, groups_of, group_use, group_token}
-use Rattle.ir_printer.specs.Pieces.{blank, line_end, sign, word}
+use Rattle.ir_printer.specs.Pieces.{blank, line_end, sign}
 use Rattle.canonical_text.proofs.Facts.{all_taken}
 use Rattle.canonical_text.proofs.OperandsGood.{Known}
 use Rattle.read_modules.proofs.Each.{Each}
 use Rattle.read_modules.proofs.SameNames.{same_decides}
 use Rattle.canonical_syntax.specs.Builds.{Builds}
 use Rattle.canonical_syntax.specs.Tells.{name_by, Tells}
-use Rattle.canonical_syntax.proofs.Builds.{Stand, IsSomeOf, builds_gap, builds_trail, builds_seq, builds_alone, builds_as, builds_weaker, builds_same, builds_none, builds_left, builds_right, builds_some, builds_rep, builds_never, builds_commas, behind, before}
+use Rattle.canonical_syntax.proofs.Builds.{Stand, IsSomeOf, builds_gap, builds_trail, builds_seq, builds_as, builds_weaker, builds_same, builds_left, builds_right, builds_some, builds_rep, builds_never, builds_commas, behind, before}
 use Rattle.canonical_syntax.proofs.Instructions.{none_both, worded_builds}
 use Rattle.canonical_syntax.proofs.Tokens.{local_builds, global_builds, group_builds}
 use Rattle.canonical_syntax.proofs.Types.{return_builds, taken_length}
 use Rattle.canonical_syntax.proofs.Words.{declare_word, define_word}
 use Rattle.canonical_names.specs.Functions.{TellsModule, MeansFunction}
 use Rattle.canonical_names.proofs.Bodies.{IsBlock, FitBlock, blocks_build}
-use Rattle.canonical_names.proofs.Groups.{IsGroup, group_is}
+use Rattle.canonical_names.proofs.Groups.{IsGroup}
 use Rattle.canonical_names.proofs.Meaning.{blocks_local, blocks_mean, same_cons}
-use Rattle.canonical_names.proofs.Places.{From, From-append, from_itself, whole_from, mapped_get, placed, distinct_left, distinct_right, apart_left, apart_right, same_some}
+use Rattle.canonical_names.proofs.Places.{From, From-append, from_itself, whole_from, mapped_get, placed, distinct_left, distinct_right, apart_left, apart_right}
 use Rattle.canonical_names.proofs.Results.{Ascends, block_results, blocks_define, results_end}
 
 -- ---- parameters

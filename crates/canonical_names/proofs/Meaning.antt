@@ -1,8 +1,8 @@
 -- What the trees of blocks stand for, and the locals that they define.
-use Rattle.std.specs.Prelude.{◌==◌, ◌&&◌, ◌||◌, nat_lt, not, slice_get}
+use Rattle.std.specs.Prelude.{nat_lt, slice_get}
 use Rattle.std.specs.List.{list_all, flat_map}
 use Rattle.std.specs.Option.{option_to_list}
-use Rattle.std.proofs.Common.{◌≡◌, ℕ, ◌+◌, ◌<◌, ◌≤◌, Bool, true, false, Option, None, Some, List, [], ◌∷◌, ◌++◌, length, map, refl, sym, ap, ◌∙◌, subst, arith}
+use Rattle.std.proofs.Common.{◌≡◌, ℕ, ◌+◌, ◌≤◌, true, false, Option, None, Some, List, [], ◌∷◌, ◌++◌, length, map, refl, sym, ap, ◌∙◌, subst, arith}
 use Rattle.std.proofs.lemmas.Bool.{and_parts, or_from, le-ltb, false≢true}
 use Rattle.std.proofs.lemmas.List.{length-append}
 use Rattle.ir_values.proofs.WordLemmas.{same_words_decides}
@@ -17,7 +17,7 @@ use Rattle.ir_values.specs.declared.ty.Ty.{Ty}
 use Rattle.ir_values.specs.declared.ty.Ty.TheVariants as ty
 use Rattle.ir_module.specs.Numbered.{type_passes}
 use Rattle.ir_module.specs.Printable.{type_fits, value_type_fits, typed_fits, operand_fits, boolean, same_type, kind_fits, result_type, result_fits}
-use Rattle.ir_module.specs.Steps.{Step, PhiAt, InstAt, TermAt, steps_of_block}
+use Rattle.ir_module.specs.Steps.{PhiAt, InstAt, TermAt}
 use Rattle.ir_module.specs.Tree.{blocks_of}
 use Rattle.ir_module.specs.declared.tree.Block.{Block}
 use Rattle.ir_module.specs.declared.tree.Function.{Function}
@@ -33,15 +33,15 @@ use Rattle.ir_grammar.specs.declared.tree.BlockSyntax.{BlockSyntax}
 use Rattle.ir_grammar.specs.declared.tree.InstSyntax.{InstSyntax}
 use Rattle.ir_grammar.specs.declared.tree.LineSyntax.{LineSyntax}
 use Rattle.ir_grammar.specs.declared.tree.PhiSyntax.{PhiSyntax}
-use Rattle.ir_names.specs.Blocks.{term_faults, term_of, name_or, first_token, block_faults, block_of, behind_block, blocks_faults, blocks_of as blocks_named}
+use Rattle.ir_names.specs.Blocks.{name_or, first_token, behind_block, blocks_faults, blocks_of as blocks_named}
 use Rattle.ir_names.specs.Faults.{fault_if}
 use Rattle.ir_names.specs.Functions.{type_of, result_locals, line_locals, phi_local, block_locals}
-use Rattle.ir_names.specs.Instructions.{duplicate, what_of, result_faults, result_of, behind, line_faults, line_of, lines_faults, insts_of, behind_lines, entry_faults, entry_of, phi_faults, phi_of, phis_faults, phis_of, behind_phis}
+use Rattle.ir_names.specs.Instructions.{duplicate, result_faults, result_of, behind, lines_faults, insts_of, behind_lines, entry_faults, entry_of, phis_faults, phis_of, behind_phis}
 use Rattle.ir_names.specs.Sense.{Sense, is_before}
 use Rattle.ir_names.specs.declared.fault.NameCode.TheVariants.{Duplicate}
-use Rattle.ir_printer.specs.Instructions.{type_of_local, local_type}
+use Rattle.ir_printer.specs.Instructions.{type_of_local}
 use Rattle.read_modules.proofs.Each.{Each, Each-left, Each-right, Each-unmap}
-use Rattle.canonical_syntax.specs.Tells.{name_by, Tells, MeansTerm}
+use Rattle.canonical_syntax.specs.Tells.{name_by, Tells}
 use Rattle.canonical_syntax.proofs.Builds.{Stand, IsSomeOf}
 use Rattle.canonical_syntax.proofs.Instructions.{IsInst, none_both, stand_means}
 use Rattle.canonical_syntax.proofs.Operands.{IsLocal, found_all}

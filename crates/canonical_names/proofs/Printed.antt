@@ -1,11 +1,10 @@
 -- What is known of the functions of a printable module.
 use Rattle.std.specs.Prelude.{◌&&◌, ◌||◌, not, is_none, nat_lt, nat_le, slice_get}
 use Rattle.std.specs.List.{list_all, flat_map}
-use Rattle.std.proofs.Common.{◌≡◌, ℕ, zero, suc, ◌^◌, ◌<◌, ◌≤◌, Bool, true, Option, None, Some, List, [], ◌∷◌, ◌++◌, length, map, refl, arith}
+use Rattle.std.proofs.Common.{◌≡◌, ℕ, zero, suc, ◌^◌, ◌<◌, Bool, true, Option, None, Some, List, [], ◌∷◌, ◌++◌, length, refl, arith}
 use Rattle.std.proofs.lemmas.Bool.{and_parts, and_from, leb-true, ltb-true}
-use Rattle.ir_values.specs.declared.ids.LocalId.{LocalId}
 use Rattle.ir_module.specs.Classes.{parameter_types}
-use Rattle.ir_module.specs.Numbered.{all_steps, are_distinct, are_few, defined_once, global_names, has_block, is_void, local_in_range, local_names, not_void, operand_in_range, results_of, step_in_range}
+use Rattle.ir_module.specs.Numbered.{all_steps, are_distinct, are_few, defined_once, global_names, has_block, is_void, local_in_range, local_names, not_void, operand_in_range, step_in_range}
 use Rattle.ir_module.specs.Operands.{step_defines, step_blocks, step_operands}
 use Rattle.ir_module.specs.Printable.{IsPrintable, declaration_fits, in_text_order, name_fits, type_fits, types_fit}
 use Rattle.ir_module.specs.Steps.{Step, steps_of, steps_of_block}
@@ -24,7 +23,7 @@ use Rattle.canonical_names.proofs.Bodies.{FitBlock}
 use Rattle.canonical_names.proofs.FunctionParts.{Below, FitFunction}
 use Rattle.canonical_names.proofs.Groups.{IsGroup, group_is}
 
-all_append : {A : Type 0} (p : A → Bool) (xs ys : List A) → list_all p xs ≡ true → list_all p ys ≡ true → list_all p (xs ++ ys) ≡ true
+pub all_append : {A : Type 0} (p : A → Bool) (xs ys : List A) → list_all p xs ≡ true → list_all p ys ≡ true → list_all p (xs ++ ys) ≡ true
 all_append p [] ys h k = k
 all_append p (x ∷ xs) ys h k = let w = and_parts (p x) (list_all p xs) h in and_from (p x) (list_all p (xs ++ ys)) w.0 (all_append p xs ys w.1 k)
 
@@ -42,7 +41,7 @@ blocks_fit m f (b ∷ bs) h n =
     let p = and_parts (name_fits b.name) (list_all (λ b. name_fits b.name) bs) n in
     (record { name = p.0; steps = Each-left (FitStep m f) (steps_of_block b) (flat_map steps_of_block bs) h }, blocks_fit m f bs (Each-right (FitStep m f) (steps_of_block b) (flat_map steps_of_block bs) h) p.1)
 
-placed_below : {A : Type 0} (xs : List A) (j : ℕ) (x : A) → slice_get xs j ≡ Some x → j < length xs
+pub placed_below : {A : Type 0} (xs : List A) (j : ℕ) (x : A) → slice_get xs j ≡ Some x → j < length xs
 placed_below [] j x e = absurd (cc)
 placed_below (y ∷ xs) zero x e = omega arith
 placed_below (y ∷ xs) (suc j) x e = let l = placed_below xs j x e in omega arith

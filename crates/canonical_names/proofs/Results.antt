@@ -1,17 +1,16 @@
 -- Results are numbered in text order behind the parameters, up to the last local.
-use Rattle.std.specs.Prelude.{◌==◌, ◌&&◌, nat_lt, nat_le, if◌then◌else◌, count_by}
+use Rattle.std.specs.Prelude.{◌==◌, nat_lt, if◌then◌else◌, count_by}
 use Rattle.std.specs.List.{list_all, flat_map}
 use Rattle.std.specs.Option.{option_to_list}
-use Rattle.std.proofs.Common.{◌≡◌, ℕ, zero, suc, ◌+◌, ◌<◌, ◌≤◌, Bool, true, false, cond, Option, None, Some, List, [], ◌∷◌, ◌++◌, length, map, refl, sym, ap, ◌∙◌, subst, arith, append_assoc, append-nil, inl, inr}
-use Rattle.std.proofs.lemmas.Bool.{and_parts, eqb-true, ltb-true, le-ltb, leb-true, ne_eqb, cases_order, false≢true}
-use Rattle.std.proofs.lemmas.List.{length-append}
+use Rattle.std.proofs.Common.{◌≡◌, ℕ, zero, suc, ◌+◌, ◌<◌, ◌≤◌, true, false, cond, List, [], ◌∷◌, ◌++◌, length, map, refl, ap, ◌∙◌, subst, arith, append-nil, inl, inr}
+use Rattle.std.proofs.lemmas.Bool.{and_parts, eqb-true, ltb-true, le-ltb, ne_eqb, cases_order}
 use Rattle.std.proofs.lemmas.List.Concat.{flat_map-append}
 use Rattle.std.proofs.lemmas.List.Sums.{sum_by-cons}
 use Rattle.ir_values.specs.declared.ids.LocalId.{LocalId}
 use Rattle.ir_module.specs.Numbered.{defined_once, results_of}
 use Rattle.ir_module.specs.Operands.{step_defines}
 use Rattle.ir_module.specs.Printable.{ascend_from}
-use Rattle.ir_module.specs.Steps.{Step, PhiAt, InstAt, TermAt, steps_of_block}
+use Rattle.ir_module.specs.Steps.{PhiAt, InstAt, TermAt, steps_of_block}
 use Rattle.ir_module.specs.declared.tree.Block.{Block}
 use Rattle.ir_module.specs.declared.tree.Function.{Function}
 use Rattle.ir_module.specs.declared.tree.Inst.{Inst}

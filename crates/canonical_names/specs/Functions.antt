@@ -1,5 +1,5 @@
 -- Functions in canonical text, and what their names stand for.
-use Rattle.std.specs.Prelude.{◌≡◌, ℕ, Some, None, List, [], length, slice_get}
+use Rattle.std.specs.Prelude.{◌≡◌, ℕ, Some, List, [], length, slice_get}
 use Rattle.ir_tokens.specs.declared.token.Token.{Token}
 use Rattle.ir_grammar.specs.SideRules.{number}
 use Rattle.ir_grammar.specs.declared.tree.FunctionSyntax.{FunctionSyntax}

@@ -1,22 +1,21 @@
 -- Names, strings and numbers that are printed are read again.
-use Rattle.std.specs.Prelude.{not, ◌==◌, ◌&&◌, nat_lt, min, decimal}
+use Rattle.std.specs.Prelude.{not, ◌==◌, nat_lt, min, decimal}
 use Rattle.std.specs.Char.{digit_value, is_ascii_digit, is_ascii_hexdigit}
 use Rattle.std.specs.Fmt.{digit_glyph}
 use Rattle.std.specs.List.{list_all}
-use Rattle.std.specs.Str.Parse.{digits_value}
-use Rattle.std.proofs.Common.{◌≡◌, ℕ, ◌+◌, ◌-◌, ◌*◌, ◌/◌, ◌%◌, ◌^◌, ◌<◌, Bool, true, false, cond, List, [], ◌∷◌, ◌++◌, length, take, drop, refl, sym, ap, ◌∙◌, subst, append_assoc, append-nil, arith}
+use Rattle.std.proofs.Common.{◌≡◌, ℕ, ◌+◌, ◌-◌, ◌*◌, ◌/◌, ◌%◌, ◌^◌, ◌<◌, Bool, true, false, cond, List, [], ◌∷◌, ◌++◌, length, take, refl, sym, ap, ◌∙◌, subst, arith}
 use Rattle.std.proofs.Math.Seq.{take-append_seam}
 use Rattle.std.proofs.lemmas.Bool.{and_parts, and_left, agree_below_at, eqb-true, ltb-true, lt-ltb, not-true, false≢true}
 use Rattle.std.proofs.lemmas.Bool.Decides.{nat_tests}
 use Rattle.std.proofs.lemmas.List.{length-append}
 use Rattle.ir_values.specs.declared.name.Name.{Name}
 use Rattle.ir_values.specs.declared.name.Name.TheVariants as name
-use Rattle.ir_text.specs.Forms.{is_run, in_name, begins_name, is_name, is_digits, begins}
+use Rattle.ir_text.specs.Forms.{is_run, in_name, begins_name, is_name, is_digits}
 use Rattle.ir_module.specs.Printable.{name_fits, are_bytes}
-use Rattle.ir_tokens.specs.Decoded.{behind_first, but_last, between, decoded, name_bytes}
+use Rattle.ir_tokens.specs.Decoded.{but_last, between, decoded, name_bytes}
 use Rattle.ir_tokens.specs.Numbers.{capped, number_in}
 use Rattle.ir_tokens.specs.Spelled.{name_of}
-use Rattle.ir_printer.specs.Spellings.{stands, escape, escaped, quoted, name_spelling, is_bare_label, label_spelling}
+use Rattle.ir_printer.specs.Spellings.{stands, escaped, quoted, name_spelling, is_bare_label, label_spelling}
 use Rattle.canonical_text.proofs.Written.{decimal_digits}
 
 -- ---- strings

@@ -1,9 +1,9 @@
 -- What is printed of a production is a sentence of it: one lemma a form of grammars.
 use Rattle.std.specs.Prelude.{nat_eq}
 use Rattle.std.specs.List.{flat_map}
-use Rattle.std.proofs.Common.{◌≡◌, ℕ, true, false, ◌||◌, Option, None, Some, List, [], ◌∷◌, ◌++◌, map, refl, sym, ap, subst, ◌∙◌, inl, inr, append-nil, append_assoc}
+use Rattle.std.proofs.Common.{◌≡◌, ℕ, true, false, Option, None, Some, List, [], ◌∷◌, ◌++◌, map, refl, sym, ap, subst, ◌∙◌, inl, inr, append-nil, append_assoc}
 use Rattle.std.proofs.lemmas.Bool.{or_left, eq-eqb}
-use Rattle.grammar.specs.Grammar.{Grammar, nothing, tok, seq, alt, opt, rep, as_tree, dep, grow, grown, marked, any, has, second, cons, or_none, listed, preceded}
+use Rattle.grammar.specs.Grammar.{Grammar, nothing, tok, seq, alt, opt, rep, as_tree, dep, grow, grown, marked, any, has, cons, or_none, listed, preceded}
 use Rattle.grammar.specs.Language.{Derives, steps, last_of}
 use Rattle.ir_text.specs.declared.tok.Tok.{Tok}
 use Rattle.ir_text.specs.declared.tok.Tok.TheVariants.{Sign}

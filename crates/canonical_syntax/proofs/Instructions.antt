@@ -1,9 +1,9 @@
 -- The parts of an instruction are a sentence of the grammar, and its tree stands for the instruction.
-use Rattle.std.specs.Prelude.{◌&&◌, ◌==◌, nat_lt, codes}
+use Rattle.std.specs.Prelude.{◌&&◌, ◌==◌, codes}
 use Rattle.std.specs.List.{list_all, flat_map}
-use Rattle.std.proofs.Common.{◌≡◌, ℕ, Bool, true, false, cond, Option, None, Some, List, [], ◌∷◌, ◌++◌, map, refl, sym, ap, ◌∙◌, subst, append_assoc, append-nil}
+use Rattle.std.proofs.Common.{◌≡◌, ℕ, Bool, true, false, cond, Option, None, Some, List, [], ◌∷◌, ◌++◌, map, refl, sym, ap, ◌∙◌, subst, append_assoc}
 use Rattle.std.proofs.lemmas.Bool.{and_parts, false≢true}
-use Rattle.grammar.specs.Grammar.{Grammar, has, ignored, second, alt, opt, as_tree}
+use Rattle.grammar.specs.Grammar.{has, ignored, alt, opt, as_tree}
 use Rattle.ir_values.specs.Arithmetic.{allows}
 use Rattle.ir_values.specs.declared.int.BinOp.{BinOp}
 use Rattle.ir_values.specs.declared.int.BinOp.TheVariants as op
@@ -27,31 +27,26 @@ use Rattle.ir_module.specs.declared.tree.InstKind.{InstKind}
 use Rattle.ir_module.specs.declared.tree.InstKind.TheVariants as what
 use Rattle.ir_module.specs.declared.tree.Module.{Module}
 use Rattle.ir_module.specs.declared.tree.Operand.{Operand}
-use Rattle.ir_tokens.specs.Classified.{kind_of}
 use Rattle.ir_tokens.specs.Tokens.{tokens}
 use Rattle.ir_tokens.specs.code.Kinds.{code}
 use Rattle.ir_tokens.specs.declared.kind.Kind.TheVariants as kind
 use Rattle.ir_tokens.specs.declared.token.Token.{Token}
-use Rattle.ir_grammar.specs.Forms.{one, one_of}
-use Rattle.ir_grammar.specs.Types.{value_type, return_type}
+use Rattle.ir_grammar.specs.Forms.{one}
 use Rattle.ir_grammar.specs.Operands.{integer_operand, operand}
-use Rattle.ir_grammar.specs.Instructions.{binary_of, no_flags, with_flag, exact_of, wrap_flag, wrapping_words, wrapping, exact_words, exacting, flagless, operand_pair, operand_pairs, binary, predicate_of, predicate, compare, conversion_of, conversion_words, convert, of_type, typed_operand, condition, select, worded_type, argument, callee, arguments, groups, call_word, call}
+use Rattle.ir_grammar.specs.Instructions.{binary_of, no_flags, with_flag, exact_of, wrap_flag, wrapping_words, wrapping, exact_words, exacting, flagless, operand_pair, operand_pairs, binary, predicate_of, predicate, compare, conversion_of, conversion_words, convert, typed_operand, condition, select, worded_type, argument, callee, arguments, groups, call_word, call}
 use Rattle.ir_grammar.specs.Blocks.{valued}
 use Rattle.ir_grammar.specs.declared.tree.ArgSyntax.{ArgSyntax}
 use Rattle.ir_grammar.specs.declared.tree.InstSyntax.{InstSyntax}
 use Rattle.ir_grammar.specs.declared.tree.OperandSyntax.{OperandSyntax}
-use Rattle.ir_grammar.specs.declared.tree.TypeSyntax.{TypeSyntax}
 use Rattle.ir_names.specs.Faults.{unknown}
 use Rattle.ir_names.specs.Functions.{type_of}
-use Rattle.ir_names.specs.Instructions.{arg_faults, arg_of, is_global, callee_faults, callee_of, group_faults, what_faults, what_of}
-use Rattle.ir_names.specs.Operands.{operand_faults, operand_of}
+use Rattle.ir_names.specs.Instructions.{arg_faults, arg_of, is_global, callee_faults, callee_of, group_faults}
 use Rattle.ir_names.specs.Sense.{Sense, func_id, local_id}
 use Rattle.ir_names.specs.declared.fault.Fault.{Fault}
-use Rattle.ir_parts.specs.Parts.{Part, token}
-use Rattle.ir_printer.specs.Pieces.{blank, sign, word, comma, listed as listed_parts}
+use Rattle.ir_printer.specs.Pieces.{blank, sign, word, comma}
 use Rattle.ir_printer.specs.Types.{width_part, type_parts}
 use Rattle.ir_printer.specs.Operands.{operand_parts, typed_parts}
-use Rattle.ir_printer.specs.Instructions.{operation_word, predicate_word, conversion_word, flag_word, operation_parts, comparison_parts, conversion_parts, pair_parts, choices_parts, boolean_parts, callee_part, called_parts, argument_parts, arguments_parts, kind_parts}
+use Rattle.ir_printer.specs.Instructions.{operation_word, predicate_word, conversion_word, flag_word, operation_parts, pair_parts, choices_parts, boolean_parts, callee_part, argument_parts, arguments_parts, kind_parts}
 use Rattle.canonical_text.proofs.OperandsGood.{Known}
 use Rattle.read_modules.proofs.Each.{Each}
 use Rattle.canonical_syntax.specs.Builds.{Builds}

@@ -1,10 +1,9 @@
 -- The parts of an operand are a sentence of the grammar, and its tree stands for the operand.
-use Rattle.std.specs.Prelude.{◌&&◌, ◌==◌, nat_lt, codes, decimal, slice_get, unwrap_or}
-use Rattle.std.specs.Fmt.{signed_decimal}
+use Rattle.std.specs.Prelude.{◌&&◌, ◌==◌, nat_lt, codes, slice_get}
 use Rattle.std.specs.List.{list_all}
-use Rattle.std.proofs.Common.{◌≡◌, ℕ, zero, suc, ◌+◌, ◌^◌, ◌<◌, ◌≤◌, Bool, true, false, cond, not, Option, None, Some, List, [], ◌∷◌, ◌++◌, length, refl, sym, ap, ◌∙◌, subst, arith}
-use Rattle.std.proofs.lemmas.Bool.{and_parts, cond_both, eqb-true, eqb-false, eq-eqb, ltb-true, false≢true}
-use Rattle.grammar.specs.Grammar.{Grammar, alt, as_tree, has}
+use Rattle.std.proofs.Common.{◌≡◌, ℕ, zero, suc, ◌^◌, ◌<◌, Bool, true, false, cond, not, Option, None, Some, List, [], ◌∷◌, ◌++◌, length, refl, sym, ap, ◌∙◌, subst, arith}
+use Rattle.std.proofs.lemmas.Bool.{and_parts, cond_both, eqb-true, eq-eqb, ltb-true, false≢true}
+use Rattle.grammar.specs.Grammar.{Grammar, alt, as_tree}
 use Rattle.ir_values.specs.Double.{is_double}
 use Rattle.ir_values.specs.Int.{IntValue}
 use Rattle.ir_values.specs.Width.{bits_of}
@@ -22,7 +21,7 @@ use Rattle.ir_values.specs.declared.value.Value.TheVariants as value
 use Rattle.ir_text.specs.declared.tok.Tok.TheVariants as sort
 use Rattle.ir_module.specs.Numbered.{are_few, operand_in_range, local_in_range}
 use Rattle.ir_module.specs.Printable.{name_fits, int_fits, constant_fits, operand_fits, constant_text_fits, are_bytes}
-use Rattle.ir_module.specs.Tree.{block_at, blocks_at, blocks_of, blocks_or_none}
+use Rattle.ir_module.specs.Tree.{blocks_at, blocks_of, blocks_or_none}
 use Rattle.ir_module.specs.declared.tree.Block.{Block}
 use Rattle.ir_module.specs.declared.tree.Constant.{Constant}
 use Rattle.ir_module.specs.declared.tree.Function.{Function}
@@ -35,7 +34,7 @@ use Rattle.ir_tokens.specs.declared.kind.Kind.{Kind}
 use Rattle.ir_tokens.specs.declared.kind.Kind.TheVariants as kind
 use Rattle.ir_tokens.specs.declared.token.Token.{Token}
 use Rattle.ir_grammar.specs.Forms.{one}
-use Rattle.ir_grammar.specs.Words.{local, global, nat, integer, zero_number}
+use Rattle.ir_grammar.specs.Words.{local, global}
 use Rattle.ir_grammar.specs.Operands.{or_local, truth_of, truth, constant, integer_operand, double_operand, numbered_handle, handle_operand, zero_index, array_type, same_array, array_types, indexed, label_operand, text_operand, function_operand, operand}
 use Rattle.ir_grammar.specs.declared.tree.OperandSyntax.{OperandSyntax}
 use Rattle.ir_grammar.specs.declared.tree.OperandSyntax.TheVariants as syntax
@@ -43,13 +42,13 @@ use Rattle.ir_names.specs.Faults.{unknown, fault_if}
 use Rattle.ir_names.specs.declared.fault.NameCode.TheVariants.{StringLength}
 use Rattle.ir_names.specs.Instructions.{is_global}
 use Rattle.ir_names.specs.Operands.{is_size, label_faults, operand_faults, double_of, operand_of}
-use Rattle.ir_names.specs.Sense.{Sense, global_id, func_id, local_id, block_id}
-use Rattle.ir_parts.specs.Parts.{Part, token}
+use Rattle.ir_names.specs.Sense.{Sense, global_id, func_id, local_id}
+use Rattle.ir_parts.specs.Parts.{token}
 use Rattle.ir_printer.specs.Pieces.{blank, sign, word, comma}
-use Rattle.ir_printer.specs.Operands.{local_token, global_token, name_of_local, name_of_function, name_of_block, local_part, function_part, block_part, bit_part, int_of_width, int_part, address_parts, handle_parts, array_parts, index_parts, address_head, label_parts, label_of, value_parts, operand_parts}
+use Rattle.ir_printer.specs.Operands.{local_token, global_token, name_of_local, name_of_function, name_of_block, local_part, function_part, block_part, bit_part, int_of_width, int_part, address_parts, handle_parts, array_parts, index_parts, label_parts, label_of, value_parts, operand_parts}
 use Rattle.canonical_text.proofs.Facts.{At, all_at}
 use Rattle.canonical_text.proofs.OperandsGood.{Known, few_bytes}
-use Rattle.canonical_syntax.specs.Builds.{IsSpelled, Builds}
+use Rattle.canonical_syntax.specs.Builds.{Builds}
 use Rattle.canonical_syntax.specs.Tells.{name_by, Tells, MeansOperand}
 use Rattle.canonical_syntax.proofs.Builds.{builds_any, builds_one, builds_gap, builds_trail, builds_dep, builds_seq, builds_as, builds_weaker, builds_same, builds_left, builds_right, behind, before}
 use Rattle.canonical_syntax.proofs.Tokens.{local_builds, global_builds, integer_builds, nat_builds, again_builds, zero_builds}

@@ -1,10 +1,10 @@
 -- The parts of phis, instructions and terminators are sentences of the grammar, and their trees stand for them.
-use Rattle.std.specs.Prelude.{◌&&◌, ◌||◌, ◌==◌, is_some, nat_lt, codes, slice_get}
+use Rattle.std.specs.Prelude.{◌&&◌, ◌||◌, is_some, nat_lt, codes, slice_get}
 use Rattle.std.specs.List.{list_all, flat_map}
 use Rattle.std.specs.Option.{option_to_list}
-use Rattle.std.proofs.Common.{◌≡◌, ℕ, Bool, true, false, not, Option, None, Some, List, [], ◌∷◌, ◌++◌, map, length, refl, sym, ap, ◌∙◌, subst, append_assoc, append-nil}
+use Rattle.std.proofs.Common.{◌≡◌, ℕ, Bool, true, false, not, Option, None, Some, List, [], ◌∷◌, ◌++◌, map, length, refl, sym, ap, ◌∙◌, subst, append_assoc}
 use Rattle.std.proofs.lemmas.Bool.{and_parts, and_from, ltb-true, not-true, false≢true}
-use Rattle.grammar.specs.Grammar.{Grammar, nothing, seq, rep, as_tree, cons}
+use Rattle.grammar.specs.Grammar.{seq, rep, as_tree, cons}
 use Rattle.ir_values.specs.Int.{IntValue}
 use Rattle.ir_values.specs.declared.ids.BlockId.{BlockId}
 use Rattle.ir_values.specs.declared.ids.LocalId.{LocalId}
@@ -15,8 +15,8 @@ use Rattle.ir_values.specs.declared.ty.Ty.TheVariants as ty
 use Rattle.ir_text.specs.declared.tok.Tok.TheVariants as sort
 use Rattle.ir_module.specs.Edges.{edges}
 use Rattle.ir_module.specs.Numbered.{operand_in_range, local_in_range, step_in_range, flags_allowed, on_integers, has_result, is_call, is_void, local_type_passes, type_passes}
-use Rattle.ir_module.specs.Operands.{operands_of, step_operands, step_defines, step_blocks, term_operands}
-use Rattle.ir_module.specs.Printable.{operand_fits, type_fits, value_type_fits, typed_fits, boolean, int_fits, kind_fits, term_fits, result_fits, has_entry, step_fits}
+use Rattle.ir_module.specs.Operands.{operands_of}
+use Rattle.ir_module.specs.Printable.{operand_fits, type_fits, value_type_fits, typed_fits, boolean, int_fits, kind_fits, result_fits, has_entry, step_fits}
 use Rattle.ir_module.specs.Steps.{Step, PhiAt, InstAt, TermAt}
 use Rattle.ir_module.specs.Tree.{blocks_of}
 use Rattle.ir_module.specs.declared.tree.Function.{Function}
@@ -30,40 +30,32 @@ use Rattle.ir_module.specs.declared.tree.Term.{Term}
 use Rattle.ir_module.specs.declared.tree.Term.TheVariants as term_is
 use Rattle.ir_tokens.specs.declared.kind.Kind.TheVariants as kind
 use Rattle.ir_tokens.specs.declared.token.Token.{Token}
-use Rattle.ir_tokens.specs.Tokens.{tokens}
-use Rattle.ir_grammar.specs.Forms.{one, ◌▸◌}
-use Rattle.ir_grammar.specs.Types.{type_kinds, value_type, return_type}
-use Rattle.ir_grammar.specs.Words.{local}
+use Rattle.ir_grammar.specs.Forms.{◌▸◌}
 use Rattle.ir_grammar.specs.Operands.{constant, integer_operand, operand}
-use Rattle.ir_grammar.specs.Instructions.{call}
-use Rattle.ir_grammar.specs.Blocks.{entry, entries, phi, add_phi, add_inst, valued, named_in, named, line, returned, returned_of, ret, target, two_targets, branch, case, switch, terminator}
+use Rattle.ir_grammar.specs.Blocks.{entry, entries, phi, add_inst, valued, named_in, named, line, returned, ret, target, two_targets, branch, case, switch, terminator}
 use Rattle.ir_grammar.specs.declared.tree.CaseSyntax.{CaseSyntax}
 use Rattle.ir_grammar.specs.declared.tree.EntrySyntax.{EntrySyntax}
 use Rattle.ir_grammar.specs.declared.tree.InstSyntax.{InstSyntax}
 use Rattle.ir_grammar.specs.declared.tree.LineSyntax.{LineSyntax}
 use Rattle.ir_grammar.specs.declared.tree.LinesSyntax.{LinesSyntax}
-use Rattle.ir_grammar.specs.declared.tree.OperandSyntax.{OperandSyntax}
 use Rattle.ir_grammar.specs.declared.tree.PhiSyntax.{PhiSyntax}
 use Rattle.ir_grammar.specs.declared.tree.TermSyntax.{TermSyntax}
 use Rattle.ir_grammar.specs.declared.tree.TermSyntax.TheVariants as term_syntax
-use Rattle.ir_names.specs.Blocks.{target_faults, target_of, case_faults, case_of, term_faults, term_of}
+use Rattle.ir_names.specs.Blocks.{target_faults, target_of, case_faults, case_of}
 use Rattle.ir_names.specs.Faults.{unknown}
 use Rattle.ir_names.specs.Instructions.{entry_faults, entry_of}
-use Rattle.ir_names.specs.Operands.{operand_faults, operand_of}
 use Rattle.ir_names.specs.Sense.{Sense, block_id}
-use Rattle.ir_names.specs.declared.fault.Fault.{Fault}
-use Rattle.ir_parts.specs.Parts.{Part, token}
-use Rattle.ir_printer.specs.Pieces.{blank, indent, line_end, sign, word, comma, equals, listed as listed_parts}
-use Rattle.ir_printer.specs.Types.{width_part, type_parts}
-use Rattle.ir_printer.specs.Operands.{local_part, block_part, int_part, operand_parts, typed_parts}
-use Rattle.ir_printer.specs.Instructions.{boolean_parts, kind_parts, result_parts, inst_parts, type_of_local, local_type, entry_parts, entries_parts, phi_parts, target_parts, targets_parts, case_parts, cases_parts, table_parts, switched_parts, term_parts}
+use Rattle.ir_parts.specs.Parts.{Part}
+use Rattle.ir_printer.specs.Pieces.{blank, sign, word, comma, equals, listed as listed_parts}
+use Rattle.ir_printer.specs.Operands.{local_part, int_part, operand_parts, typed_parts}
+use Rattle.ir_printer.specs.Instructions.{boolean_parts, kind_parts, result_parts, type_of_local, local_type, entry_parts, entries_parts, target_parts, targets_parts, case_parts, cases_parts, table_parts, term_parts}
 use Rattle.ir_printer.specs.Functions.{phi_line, inst_line}
 use Rattle.canonical_text.proofs.OperandsGood.{Known}
 use Rattle.read_modules.proofs.Each.{Each}
 use Rattle.canonical_syntax.specs.Builds.{Builds}
 use Rattle.canonical_syntax.specs.Tells.{name_by, Tells, MeansOperand, MeansTerm}
 use Rattle.canonical_syntax.proofs.Builds.{Stand, builds_one, builds_gap, builds_trail, builds_nothing, builds_dep, builds_seq, builds_as, builds_weaker, builds_same, builds_left, builds_right, builds_rep, builds_list, behind, before, between}
-use Rattle.canonical_syntax.proofs.Instructions.{IsInst, FitKind, none_both, stand_means, integer_use, typed_use, condition_builds, call_builds, kind_builds}
+use Rattle.canonical_syntax.proofs.Instructions.{IsInst, FitKind, none_both, stand_means, integer_use, condition_builds, call_builds, kind_builds}
 use Rattle.canonical_syntax.proofs.Operands.{IsLocal, found, block_use, local_named, constant_builds, operand_builds}
 use Rattle.canonical_syntax.proofs.Types.{width_builds, value_builds, return_builds}
 use Rattle.canonical_syntax.proofs.Words.{phi_word, label_word, br_word, ret_word, switch_word}

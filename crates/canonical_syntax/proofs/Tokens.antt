@@ -3,12 +3,12 @@ use Rattle.std.specs.Prelude.{◌==◌, nat_lt, nat_eq, codes, decimal, ℤ, pos
 use Rattle.std.specs.Char.{is_ascii_digit}
 use Rattle.std.specs.Fmt.{signed_decimal}
 use Rattle.std.specs.List.{list_all}
-use Rattle.std.proofs.Common.{◌≡◌, ℕ, suc, ◌+◌, ◌-◌, ◌^◌, ◌<◌, ◌≤◌, Bool, true, false, cond, None, Some, List, [], ◌∷◌, length, refl, sym, ap, ◌∙◌, subst, arith, pow_mono, pow_pos}
-use Rattle.std.proofs.lemmas.Bool.{and_parts, cond_both, lt-ltb, ltb-true, ltb-false, eqb-true, eqb-false, eq-eqb, ne_eqb, false≢true}
+use Rattle.std.proofs.Common.{◌≡◌, ℕ, suc, ◌+◌, ◌-◌, ◌^◌, ◌<◌, ◌≤◌, Bool, true, false, cond, None, List, [], ◌∷◌, refl, sym, ap, ◌∙◌, subst, arith}
+use Rattle.std.proofs.lemmas.Bool.{and_parts, cond_both, lt-ltb, ltb-false, eq-eqb, ne_eqb, false≢true}
 use Rattle.std.proofs.lemmas.Bool.Decides.{nat_tests}
 use Rattle.std.proofs.lemmas.Int.{ints}
-use Rattle.grammar.specs.Grammar.{Grammar, has, tok, as_tree}
-use Rattle.ir_values.specs.Int.{IntValue, signed}
+use Rattle.grammar.specs.Grammar.{has, tok}
+use Rattle.ir_values.specs.Int.{signed}
 use Rattle.ir_values.specs.Width.{bits_of}
 use Rattle.ir_values.specs.declared.int.Width.{Width}
 use Rattle.ir_values.specs.declared.int.Width.TheVariants.{W1, W8, W16, W32, W64}
@@ -16,9 +16,9 @@ use Rattle.ir_values.specs.declared.name.Name.{Name}
 use Rattle.ir_text.specs.Forms.{is_digits, begins, after_minus}
 use Rattle.ir_text.specs.declared.tok.Tok.{Tok}
 use Rattle.ir_text.specs.declared.tok.Tok.TheVariants as sort
-use Rattle.ir_tokens.specs.Classified.{kind_of, number_of, local_kind, integer_kind}
+use Rattle.ir_tokens.specs.Classified.{kind_of, number_of, local_kind}
 use Rattle.ir_tokens.specs.Decoded.{behind_first, but_last, name_bytes}
-use Rattle.ir_tokens.specs.Numbers.{number_in, value_of}
+use Rattle.ir_tokens.specs.Numbers.{number_in}
 use Rattle.ir_tokens.specs.Spelled.{name_of, name_part}
 use Rattle.ir_tokens.specs.Tokens.{tokens}
 use Rattle.ir_tokens.specs.code.Kinds.{code}
@@ -26,22 +26,20 @@ use Rattle.ir_names.specs.Instructions.{is_global}
 use Rattle.ir_tokens.specs.Words.{same_text}
 use Rattle.ir_tokens.specs.declared.kind.Kind.{Kind}
 use Rattle.ir_tokens.specs.declared.kind.Kind.TheVariants as kind
-use Rattle.ir_tokens.specs.declared.rule.Rule.{Rule}
 use Rattle.ir_tokens.specs.declared.rule.Rule.TheVariants.{LiteralRange, Syntax}
 use Rattle.ir_tokens.specs.declared.token.Token.{Token}
-use Rattle.ir_grammar.specs.SideRules.{number, unless, numbered, same_number, is_negative, fits, in_range, bits_of_sign, integer_of}
-use Rattle.ir_grammar.specs.Words.{local_kinds, local, global, label, group, node, nat, integer_kinds, integer, zero_number}
+use Rattle.ir_grammar.specs.SideRules.{number, unless, numbered, same_number, is_negative, fits, in_range, bits_of_sign}
+use Rattle.ir_grammar.specs.Words.{local_kinds, local, global, label, group, nat, integer_kinds, integer, zero_number}
 use Rattle.ir_module.specs.Printable.{name_fits}
-use Rattle.ir_parts.specs.Parts.{Part, token}
+use Rattle.ir_parts.specs.Parts.{token}
 use Rattle.ir_printer.specs.Spellings.{name_spelling, label_spelling}
 use Rattle.ir_printer.specs.Operands.{local_token, global_token}
 use Rattle.ir_printer.specs.Groups.{group_token}
-use Rattle.ir_printer.specs.Metadata.{node_token}
 use Rattle.canonical_text.proofs.Written.{decimal_digits}
-use Rattle.canonical_syntax.specs.Builds.{IsSpelled, Reads, Builds}
+use Rattle.canonical_syntax.specs.Builds.{IsSpelled, Builds}
 use Rattle.canonical_syntax.specs.Tells.{name_by}
-use Rattle.canonical_syntax.proofs.Again.{Writes, name_again, label_again, number_again, but_last_is}
-use Rattle.canonical_syntax.proofs.Builds.{builds_tok, builds_as, builds_one, has_itself}
+use Rattle.canonical_syntax.proofs.Again.{name_again, label_again, number_again}
+use Rattle.canonical_syntax.proofs.Builds.{builds_tok, builds_as, builds_one}
 
 -- ---- names
 

@@ -3,14 +3,15 @@ use Rattle.std.specs.Prelude.{if◌then◌else◌, ◌&&◌, nat_lt, nat_le, cod
 use Rattle.std.specs.List.{flat_map}
 use Rattle.std.proofs.Common.{◌≡◌, ℕ, zero, suc, ◌+◌, ◌≤◌, ◌<◌, max, Bool, true, false, None, Some, List, [], ◌∷◌, ◌++◌, map, length, take, drop, refl, sym, ap, ◌∙◌, subst, arith, append_assoc, append-nil}
 use Rattle.std.proofs.lemmas.Bool.{and_parts, cond_both, lt-ltb, leb-true, ltb-true, ltb-false, not-true, false≢true}
-use Rattle.grammar.specs.Grammar.{Grammar, tok, has, marked}
+use Rattle.std.proofs.lemmas.List.{length-map}
+use Rattle.grammar.specs.Grammar.{Grammar, has, marked}
 use Rattle.ir_values.specs.declared.int.Width.{Width}
 use Rattle.ir_values.specs.declared.int.Width.TheVariants.{W1, W8, W16, W32, W64}
 use Rattle.ir_values.specs.declared.sig.TyWord.{TyWord}
 use Rattle.ir_values.specs.declared.sig.TyWord.TheVariants as word
 use Rattle.ir_values.specs.declared.ty.Ty.{Ty}
 use Rattle.ir_values.specs.declared.ty.Ty.TheVariants as ty
-use Rattle.ir_values.specs.Types.{words_of, signature, is_ty}
+use Rattle.ir_values.specs.Types.{words_of, signature}
 use Rattle.ir_values.specs.Words.{spells, is_sig}
 use Rattle.ir_text.specs.declared.tok.Tok.TheVariants as sort
 use Rattle.ir_module.specs.Numbered.{is_void}
@@ -22,10 +23,10 @@ use Rattle.ir_tokens.specs.Classified.{kind_of}
 use Rattle.ir_tokens.specs.Tokens.{tokens}
 use Rattle.ir_grammar.specs.declared.tree.TypeSyntax.{TypeSyntax}
 use Rattle.ir_grammar.specs.SideRules.{unless}
-use Rattle.ir_grammar.specs.Types.{typed, word_type, width_of, integer_type, byte_or_text, plain_type, byte_type, qubit_type, result_type, void_type, base_type, shallow, deepest, function_pointer, suffix_of, return_type_of, value_type_of, suffix_at, value_type_at, value_type, return_type}
+use Rattle.ir_grammar.specs.Types.{typed, word_type, width_of, integer_type, byte_or_text, plain_type, byte_type, qubit_type, result_type, void_type, base_type, deepest, return_type_of, value_type_of, suffix_at, value_type_at, value_type, return_type}
 use Rattle.ir_parts.specs.Parts.{Part, token}
 use Rattle.ir_printer.specs.Pieces.{blank, sign, word as word_token, listed as listed_parts}
-use Rattle.ir_printer.specs.Types.{width_part, word_parts, pointer_parts, with_pointer, types_parts, first_type, type_parts}
+use Rattle.ir_printer.specs.Types.{width_part, pointer_parts, with_pointer, types_parts, first_type, type_parts}
 use Rattle.read_modules.proofs.Each.{Each}
 use Rattle.canonical_syntax.specs.Builds.{IsSpelled, Builds}
 use Rattle.canonical_syntax.proofs.Builds.{Stand, IsSomeOf, builds_tok, builds_any, builds_one, builds_gap, builds_dep, builds_seq, builds_as, builds_left, builds_right, builds_marked, builds_none, builds_some, before, before_both, builds_commas, builds_same, builds_weaker, grown_first, grown_more}
@@ -337,10 +338,6 @@ dropped_length zero xs h = omega arith
 dropped_length (suc k) [] h = absurd (omega arith)
 dropped_length (suc k) (x ∷ xs) h = let e = dropped_length k xs (omega arith) in omega arith
 
-mapped_length : {A B : Type 0} (f : A → B) (xs : List A) → length (map f xs) ≡ length xs
-mapped_length f [] = refl
-mapped_length f (x ∷ xs) = let e = mapped_length f xs in omega arith
-
 flat_parted : {spelling : Token → List ℕ} (k : ℕ) (is : List (TypeItem spelling)) → flat_map words_of (types (take k is)) ++ flat_map words_of (types (drop k is)) ≡ flat_map words_of (types is)
 flat_parted zero is = refl
 flat_parted (suc k) [] = refl
@@ -357,7 +354,7 @@ module _ (spelling : Token → List ℕ) where
           let few : k ≤ length rest = omega arith in
           let left = dropped_length k rest few in
           let item = pointer_item spelling ret (take k rest) (each_taken IsValue k rest s.1) in
-          let taken : length (types (take k rest)) ≡ k = mapped_length (λ i. i.type) (take k rest) ∙ taken_length k rest few in
+          let taken : length (types (take k rest)) ≡ k = length-map (take k rest) (λ i. i.type) ∙ taken_length k rest few in
           let whole : words_of item.type ++ flat_map words_of (types (drop k rest)) ≡ word.Func k ∷ ws =
           ap (λ l. word.Func (length (types (take k rest))) ∷ l) (append_assoc (words_of ret.type) (flat_map words_of (types (take k rest))) (flat_map words_of (types (drop k rest))) ∙ (ap (λ l. words_of ret.type ++ l) (flat_parted k rest) ∙ w))
           ∙ ap (λ j. word.Func j ∷ ws) taken in

@@ -1,5 +1,5 @@
 -- The kinds of the words that are printed.
-use Rattle.std.specs.Prelude.{◌≡◌, ℕ, codes, List}
+use Rattle.std.specs.Prelude.{◌≡◌, codes}
 use Rattle.std.proofs.Common.{refl}
 use Rattle.ir_values.specs.declared.int.BinOp.{BinOp}
 use Rattle.ir_values.specs.declared.int.BinOp.TheVariants as op

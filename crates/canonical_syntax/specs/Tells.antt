@@ -1,5 +1,5 @@
 -- What the names in a canonical text stand for.
-use Rattle.std.specs.Prelude.{◌≡◌, ℕ, Option, Some, None, List, [], length, slice_get}
+use Rattle.std.specs.Prelude.{◌≡◌, ℕ, Some, None, List, [], length, slice_get}
 use Rattle.ir_tokens.specs.Decoded.{between, decoded}
 use Rattle.ir_tokens.specs.Spelled.{name_of, name_part, string_part}
 use Rattle.ir_tokens.specs.declared.token.Token.{Token}

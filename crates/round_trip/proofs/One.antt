@@ -1,5 +1,5 @@
 -- A text spells one module at most.
-use Rattle.std.proofs.Common.{◌≡◌, ℕ, Result, Ok, Err, List, refl, sym, ap, ◌∙◌, subst}
+use Rattle.std.proofs.Common.{◌≡◌, ℕ, Result, Ok, Err, List, refl, sym, ap, ◌∙◌}
 use Rattle.ir_grammar.specs.declared.tree.ItemSyntax.{ItemSyntax}
 use Rattle.ir_module.specs.declared.places.Place.{Place}
 use Rattle.ir_module.specs.declared.tree.Module.{Module}

@@ -1,7 +1,3 @@
-use Rattle.std.specs.Prelude.{◌&&◌}
-use Rattle.std.proofs.Common.{true}
-use Rattle.std.proofs.lemmas.Bool.{and_parts}
-use Rattle.ir_module.specs.Printable.{kind_fits, result_fits}
 use Rattle.ir_module.specs.Steps.{InstAt, TermAt, steps_of}
 use Rattle.canonical_syntax.proofs.Builds.{builds_weaker}
 use Rattle.canonical_syntax.proofs.Instructions.{kind_builds}

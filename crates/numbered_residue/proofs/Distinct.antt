@@ -1,14 +1,11 @@
 -- The names of each space of the printed module are distinct.
-use Rattle.std.proofs.Common.{◌≡◌, ℕ, zero, suc, ◌+◌, ◌^◌, ◌<◌, ◌≤◌, Bool, true, false, ◌&&◌, not, Option, None, Some, List, [], ◌∷◌, ◌++◌, length, map, take, refl, sym, ap, ◌∙◌, subst, arith, append-nil}
+use Rattle.std.proofs.Common.{◌≡◌, ℕ, suc, ◌+◌, ◌^◌, ◌<◌, ◌≤◌, Bool, true, false, ◌&&◌, not, Option, Some, List, [], ◌∷◌, ◌++◌, length, map, take, refl, sym, ap, ◌∙◌, arith, append-nil}
 use Rattle.std.proofs.lemmas.Bool.{and_parts}
 use Rattle.std.specs.Cmp.{unsigned_Decides}
 use Rattle.std.specs.Cmp.Lexicographic.{pointwise, pointwise_decides}
 use Rattle.std.specs.List.{list_all, list_any, starts_with}
-use Rattle.std.specs.Prelude.{◌||◌, ◌==◌, ⊤, if◌then◌else◌, flat_map, nat_eq, slice_get, codes, decimal}
-use Rattle.ir_module.specs.declared.tree.Block.{Block}
-use Rattle.ir_module.specs.declared.tree.Function.{Function}
+use Rattle.std.specs.Prelude.{◌||◌, ◌==◌, ⊤, if◌then◌else◌, nat_eq, codes, decimal}
 use Rattle.ir_module.specs.Numbered.{are_distinct, local_names, names_are_distinct, same_name}
-use Rattle.ir_module.specs.Tree.{blocks_of}
 use Rattle.ir_values.specs.declared.class.Class.{Class}
 use Rattle.ir_values.specs.declared.class.Class.TheVariants as class
 use Rattle.ir_values.specs.declared.name.Name.{Name}
@@ -16,20 +13,18 @@ use Rattle.ir_values.specs.declared.name.Name.TheVariants as name
 use Rattle.ir_values.specs.declared.ty.Ty.{Ty}
 use Rattle.ir_values.specs.declared.value.Value.{Value}
 use Rattle.ir_values.specs.Calls.{same_text}
-use Rattle.ir_values.specs.Decimals.{decimal_value}
-use Rattle.ir_values.specs.Names.{instruction_prefix, name_text, quantum_prefix}
+use Rattle.ir_values.specs.Names.{instruction_prefix, quantum_prefix}
 use Rattle.ir_values.proofs.DecimalLemmas.{decimal_value-digits}
 use Rattle.kept_items.specs.declared.item.Item.{Item}
 use Rattle.kept_items.specs.declared.item.Item.TheVariants as item
-use Rattle.kept_items.specs.declared.target.Caps.{Caps}
 use Rattle.kept_items.specs.declared.target.Target.{Target}
 use Rattle.kept_items.specs.declared.target.Target.TheVariants.{Base, Adaptive}
 use Rattle.residue.specs.declared.parts.Part.{Part}
 use Rattle.residue.specs.declared.parts.Residue.{Residue}
-use Rattle.residue.specs.Functions.{Called, all_items, called, calls_of, calls_of_residue, declaration, declared_of, first_uses, initialize, is_among, is_constant, parameters, read_result, reading, record_name, types_of}
+use Rattle.residue.specs.Functions.{Called, all_items, calls_of, calls_of_residue, declaration, declared_of, first_uses, initialize, is_among, is_constant, parameters, read_result, reading, record_name, types_of}
 use Rattle.residue.specs.Printed.{base_blocks, block_name, locals_from, names_of, names_of_part, print_blocks, print_parts, printed, printed_entry}
 use Rattle.residue.specs.Valid.{Valid, all_alike, is_instruction, is_own_name, output_known, own_names, recorded_type, takes_types}
-use Rattle.printed_residue.proofs.Looks.{differ, other-numbers, same-numbers}
+use Rattle.printed_residue.proofs.Looks.{differ, other-numbers}
 use Rattle.numbered_residue.proofs.Listed.{names-few, parts-few}
 use Rattle.numbered_residue.proofs.Passing.{all-both, all-each, all-flat, all-map}
 

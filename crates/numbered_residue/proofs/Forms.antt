@@ -1,22 +1,20 @@
 -- The instructions of items, one form at a time, and what is known of items and edges.
-use Rattle.std.proofs.Common.{◌≡◌, ℕ, zero, suc, ◌+◌, ◌<◌, ◌≤◌, Bool, true, false, ◌&&◌, not, Option, None, Some, List, [], ◌∷◌, ◌++◌, length, map, refl, sym, ap, ◌∙◌, subst, arith}
+use Rattle.std.proofs.Common.{◌≡◌, ℕ, zero, suc, ◌+◌, Bool, true, false, ◌&&◌, Some, List, [], ◌∷◌, ◌++◌, map, refl, sym, ap, ◌∙◌, arith}
 use Rattle.std.proofs.lemmas.Bool.{and_parts}
 use Rattle.std.proofs.lemmas.List.Folds.{list_all-append}
-use Rattle.std.specs.List.{list_all, list_any}
-use Rattle.std.specs.Prelude.{◌||◌, ◌==◌, ⊤, if◌then◌else◌, filter, flat_map, slice_get, slice_index_or}
+use Rattle.std.specs.List.{list_all}
+use Rattle.std.specs.Prelude.{◌==◌, if◌then◌else◌, flat_map, slice_get, slice_index_or}
 use Rattle.ir_module.specs.declared.tree.Inst.{Inst}
 use Rattle.ir_module.specs.declared.tree.Operand.{Operand}
 use Rattle.ir_values.specs.declared.ids.BlockId.{BlockId}
-use Rattle.ir_values.specs.declared.int.Width.{Width}
 use Rattle.ir_values.specs.declared.ty.Ty.{Ty}
 use Rattle.ir_values.specs.declared.value.Value.{Value}
 use Rattle.ir_values.specs.declared.value.Value.TheVariants as value
 use Rattle.kept_items.specs.declared.item.Item.{Item}
 use Rattle.kept_items.specs.declared.item.Item.TheVariants as item
-use Rattle.kept_items.specs.declared.target.Target.{Target}
 use Rattle.kept_items.specs.declared.val.Dyn.{Dyn}
 use Rattle.kept_items.specs.declared.val.Val.{Val}
-use Rattle.kept_items.specs.declared.val.Val.TheVariants.{Known, Dynamic}
+use Rattle.kept_items.specs.declared.val.Val.TheVariants.{Known}
 use Rattle.residue.specs.declared.parts.Jump.{Jump}
 use Rattle.residue.specs.declared.parts.Part.{Part}
 use Rattle.residue.specs.declared.parts.Residue.{Residue}
@@ -29,7 +27,7 @@ use Rattle.printed_residue.proofs.Declared.{Among}
 use Rattle.printed_residue.proofs.Facts.{passes-here, passes-piece}
 use Rattle.printed_residue.proofs.Lines.{all-typed}
 use Rattle.printed_residue.proofs.Rising.{filter-passes}
-use Rattle.numbered_residue.proofs.Passing.{all-both, all-flat, all-map}
+use Rattle.numbered_residue.proofs.Passing.{all-both, all-map}
 
 -- ---- a comparison of two results: its reads, and the test
 

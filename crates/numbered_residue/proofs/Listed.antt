@@ -1,30 +1,17 @@
 -- The parts of order that the list of functions shows: their types, their number, and their names.
-use Rattle.std.proofs.Common.{◌≡◌, ℕ, zero, suc, ◌+◌, ◌*◌, ◌^◌, ◌<◌, ◌≤◌, Bool, true, false, ◌&&◌, not, Option, None, Some, List, [], ◌∷◌, ◌++◌, length, map, take, refl, sym, ap, ◌∙◌, subst, arith, length-append}
+use Rattle.std.proofs.Common.{◌≡◌, ℕ, suc, ◌+◌, ◌*◌, ◌^◌, ◌<◌, ◌≤◌, Bool, true, false, ◌&&◌, not, Some, List, [], ◌∷◌, ◌++◌, length, map, take, refl, ap, ◌∙◌, arith, length-append}
 use Rattle.std.proofs.lemmas.Bool.{and_parts}
-use Rattle.std.specs.Cmp.{unsigned_Decides}
-use Rattle.std.specs.Cmp.Lexicographic.{pointwise_decides}
-use Rattle.std.specs.List.{list_all, list_any, starts_with}
-use Rattle.std.specs.Prelude.{◌||◌, ◌==◌, if◌then◌else◌, flat_map, nat_eq, nat_le, nat_lt, slice_get, codes}
-use Rattle.ir_module.specs.declared.tree.Block.{Block}
-use Rattle.ir_module.specs.declared.tree.Function.{Function}
+use Rattle.std.specs.List.{list_all}
+use Rattle.std.specs.Prelude.{if◌then◌else◌, flat_map, nat_le, nat_lt}
 use Rattle.ir_module.specs.Classes.{parameter_types}
-use Rattle.ir_module.specs.Numbered.{are_distinct, are_few, has_block, is_void, same_name}
+use Rattle.ir_module.specs.Numbered.{are_few, has_block, is_void}
 use Rattle.ir_module.specs.Tree.{blocks_of}
-use Rattle.ir_values.specs.declared.class.Class.{Class}
-use Rattle.ir_values.specs.declared.class.Class.TheVariants as class
-use Rattle.ir_values.specs.declared.int.Width.TheVariants.{W1}
-use Rattle.ir_values.specs.declared.name.Name.{Name}
-use Rattle.ir_values.specs.declared.name.Name.TheVariants as name
 use Rattle.ir_values.specs.declared.ty.Ty.{Ty}
 use Rattle.ir_values.specs.declared.ty.Ty.TheVariants as ty
 use Rattle.ir_values.specs.declared.value.Value.{Value}
-use Rattle.ir_values.specs.declared.value.Value.TheVariants as value
-use Rattle.ir_values.specs.Calls.{same_text}
-use Rattle.ir_values.specs.Names.{instruction_prefix, name_text, quantum_prefix}
 use Rattle.ir_values.specs.Types.{is_ty}
 use Rattle.kept_items.specs.declared.item.Item.{Item}
 use Rattle.kept_items.specs.declared.item.Item.TheVariants as item
-use Rattle.kept_items.specs.declared.target.Caps.{Caps}
 use Rattle.kept_items.specs.declared.target.Target.{Target}
 use Rattle.kept_items.specs.declared.target.Target.TheVariants.{Base, Adaptive}
 use Rattle.kept_items.specs.declared.val.Val.{Val}
@@ -32,13 +19,12 @@ use Rattle.residue.specs.declared.parts.Line.{Line}
 use Rattle.residue.specs.declared.parts.Line.TheVariants as line
 use Rattle.residue.specs.declared.parts.Part.{Part}
 use Rattle.residue.specs.declared.parts.Residue.{Residue}
-use Rattle.residue.specs.Functions.{Called, all_items, called, calls_of, calls_of_residue, declaration, declared_of, first_uses, initialize, is_among, is_constant, parameters, read_name, read_result, reading, record_name, types_of}
+use Rattle.residue.specs.Functions.{Called, all_items, called, calls_of, calls_of_residue, declaration, declared_of, first_uses, initialize, is_among, is_constant, parameters, read_result, reading, record_name, types_of}
 use Rattle.residue.specs.Printed.{base_blocks, names_of, names_of_part, print_blocks, print_parts, printed, printed_entry}
 use Rattle.residue.specs.Scopes.{gives_of, item_uses, items_of, jumps}
-use Rattle.residue.specs.Valid.{Valid, all_alike, all_tails, begins, is_instruction, is_own_name, label_below, leads_on, number_small, output_known, own_names, parts_and_lines, recorded_type, takes_types, val_has}
+use Rattle.residue.specs.Valid.{Valid, all_tails, begins, label_below, leads_on, number_small, parts_and_lines, val_has}
 use Rattle.residue.specs.Scopes as scope
-use Rattle.printed_residue.proofs.Declared.{Among, fits}
-use Rattle.printed_residue.proofs.Facts.{passes-here}
+use Rattle.printed_residue.proofs.Declared.{fits}
 use Rattle.numbered_residue.proofs.Forms.{item-uses-pass}
 use Rattle.numbered_residue.proofs.Passing.{all-both, all-each, all-flat, all-map}
 use Rattle.numbered_residue.proofs.Shapes.{all-locals-pass, type-not-void, type-whole}

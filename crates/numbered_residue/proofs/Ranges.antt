@@ -1,20 +1,18 @@
 -- The numbers of the printed module are in range.
-use Rattle.std.proofs.Common.{◌≡◌, ℕ, zero, suc, ◌+◌, ◌<◌, ◌≤◌, Bool, true, false, ◌&&◌, not, Option, None, Some, List, [], ◌∷◌, ◌++◌, length, map, refl, sym, ap, ◌∙◌, subst, arith, append-nil, length-append}
+use Rattle.std.proofs.Common.{◌≡◌, ℕ, zero, suc, ◌+◌, ◌<◌, ◌≤◌, Bool, true, false, ◌&&◌, Option, None, Some, List, [], ◌∷◌, ◌++◌, length, map, refl, sym, ap, ◌∙◌, subst, arith, append-nil, length-append}
 use Rattle.std.proofs.lemmas.Bool.{and_parts}
 use Rattle.std.proofs.lemmas.Option.{slice_get_within}
 use Rattle.std.specs.List.{list_all}
-use Rattle.std.specs.Prelude.{◌||◌, ◌==◌, ⊤, if◌then◌else◌, flat_map, is_some, nat_le, nat_lt, slice_get}
-use Rattle.ir_module.specs.declared.tree.Callee.TheVariants as callee
+use Rattle.std.specs.Prelude.{◌||◌, ⊤, flat_map, is_some, nat_le, nat_lt, slice_get}
 use Rattle.ir_module.specs.declared.tree.Function.{Function}
-use Rattle.ir_module.specs.declared.tree.Inst.{Inst}
 use Rattle.ir_module.specs.declared.tree.Module.{Module}
 use Rattle.ir_module.specs.declared.tree.Operand.{Operand}
 use Rattle.ir_module.specs.declared.tree.Operand.TheVariants as operand
 use Rattle.ir_module.specs.declared.tree.Term.TheVariants as term
 use Rattle.ir_module.specs.Edges.{edges}
-use Rattle.ir_module.specs.Numbered.{all_steps, are_few, constant_in_range, local_in_range, numbers_in_range, operand_in_range, step_in_range}
+use Rattle.ir_module.specs.Numbered.{all_steps, are_few, local_in_range, numbers_in_range, operand_in_range, step_in_range}
 use Rattle.ir_module.specs.Operands.{term_operands}
-use Rattle.ir_module.specs.Steps.{Step, PhiAt, InstAt, TermAt, NoStep}
+use Rattle.ir_module.specs.Steps.{Step, PhiAt, InstAt, TermAt}
 use Rattle.ir_module.specs.Tree.{blocks_of}
 use Rattle.ir_values.specs.declared.class.Class.{Class}
 use Rattle.ir_values.specs.declared.class.Class.TheVariants as class
@@ -22,7 +20,6 @@ use Rattle.ir_values.specs.declared.ids.BlockId.{BlockId}
 use Rattle.ir_values.specs.declared.ids.FuncId.{FuncId}
 use Rattle.ir_values.specs.declared.int.Width.{Width}
 use Rattle.ir_values.specs.declared.int.Width.TheVariants.{W1, W64}
-use Rattle.ir_values.specs.declared.name.Name.{Name}
 use Rattle.ir_values.specs.declared.ty.Ty.{Ty}
 use Rattle.ir_values.specs.declared.ty.Ty.TheVariants as ty
 use Rattle.ir_values.specs.declared.value.Value.{Value}
@@ -30,7 +27,6 @@ use Rattle.ir_values.specs.declared.value.Value.TheVariants as value
 use Rattle.ir_values.specs.Int.{IntValue}
 use Rattle.kept_items.specs.declared.item.Item.{Item}
 use Rattle.kept_items.specs.declared.item.Item.TheVariants as item
-use Rattle.kept_items.specs.declared.target.Caps.{Caps}
 use Rattle.kept_items.specs.declared.target.Target.{Target}
 use Rattle.kept_items.specs.declared.target.Target.TheVariants.{Base, Adaptive}
 use Rattle.kept_items.specs.declared.val.Dyn.{Dyn}
@@ -43,24 +39,24 @@ use Rattle.residue.specs.declared.parts.Residue.{Residue}
 use Rattle.residue.specs.declared.parts.Tail.{Tail}
 use Rattle.residue.specs.declared.parts.Tail.TheVariants as tail
 use Rattle.residue.specs.Functions.{all_items, initialize, is_constant, read_name, record_name}
-use Rattle.residue.specs.Instructions.{Words, block_number, equal_test, instructions, local, names_of_item, named_value, operand_of, print_tail, read_into, reads, side_operand, typed_operand}
+use Rattle.residue.specs.Instructions.{Words, block_number, instructions, local, names_of_item, named_value, operand_of, print_tail, read_into, reads, side_operand, typed_operand}
 use Rattle.residue.specs.Printed.{argument, base_blocks, edges_to, entries, initialize_call, locals_from, name_in, names_of, names_of_part, print_blocks, print_parts, printed, printed_entry, words}
 use Rattle.residue.specs.Scopes.{gives_of, item_uses, jump_args, jumps, part_gives, tail_uses, uses_of, width_in}
 use Rattle.residue.specs.Scopes as scope
-use Rattle.residue.specs.Valid.{Valid, all_agree, all_tails, args_fit, base_permits, base_permits_tail, begins, fits_part, is_known, is_of_width, is_within, label_below, leads_on, part_within, tail_within, target_permits, val_has}
+use Rattle.residue.specs.Valid.{Valid, all_agree, all_tails, args_fit, base_permits, base_permits_tail, begins, fits_part, is_of_width, is_within, label_below, leads_on, target_permits, val_has}
 use Rattle.printed_residue.specs.Places.{is_in, names_before}
 use Rattle.printed_residue.proofs.Calls.{Declares, measures, op_class}
-use Rattle.printed_residue.proofs.Declared.{Among, fits}
+use Rattle.printed_residue.proofs.Declared.{Among}
 use Rattle.printed_residue.proofs.Ends.{initialize-declared}
 use Rattle.printed_residue.proofs.Facts.{passes-here, passes-piece}
 use Rattle.printed_residue.proofs.Items.{ItemDeclared}
 use Rattle.printed_residue.proofs.Lines.{item-declared, scoped}
-use Rattle.printed_residue.proofs.Naming.{equal-names, has, has-parts, name-early, params-enough}
+use Rattle.printed_residue.proofs.Naming.{equal-names, has-parts, name-early, params-enough}
 use Rattle.printed_residue.proofs.Running.{ReadDeclared}
 use Rattle.printed_residue.proofs.Scoped.{in-append, in-front, in-is}
 use Rattle.numbered_residue.proofs.Forms.{args-of-written, entries-pass, equal-passes, first-passes, index-passes, item-uses-pass, jump-args-pass, second-passes, tail-uses-pass, third-passes, uses-of-written}
 use Rattle.numbered_residue.proofs.Listed.{parameters-local}
-use Rattle.numbered_residue.proofs.Passing.{Passes, all-both, all-each, all-map, all-steps, entry-passes}
+use Rattle.numbered_residue.proofs.Passing.{all-both, all-map, all-steps, entry-passes}
 
 below : (a b : ℕ) → a < b → nat_lt a b ≡ true
 below a b h = grind arith

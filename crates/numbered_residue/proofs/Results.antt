@@ -1,12 +1,12 @@
 -- Each local name of the printed module is defined once.
-use Rattle.std.proofs.Common.{◌≡◌, ℕ, zero, suc, ◌+◌, ◌<◌, ◌≤◌, Bool, true, false, ◌&&◌, cond, Option, None, Some, List, [], ◌∷◌, ◌++◌, length, map, refl, sym, ap, ◌∙◌, subst, arith, length-append, append_assoc, append-nil, ⊎_elim}
+use Rattle.std.proofs.Common.{◌≡◌, ℕ, zero, suc, ◌+◌, ◌<◌, ◌≤◌, Bool, true, false, ◌&&◌, cond, Option, None, Some, List, [], ◌∷◌, ◌++◌, length, map, refl, sym, ap, ◌∙◌, subst, arith, length-append, append-nil, ⊎_elim}
 use Rattle.std.proofs.lemmas.Bool.{and_parts, cases_lt}
 use Rattle.std.proofs.lemmas.Grind.{flat_map-append}
 use Rattle.std.proofs.lemmas.List.Folds.{list_all-append}
 use Rattle.std.proofs.lemmas.List.Sums.{sum_by-cons}
 use Rattle.std.specs.List.{list_all}
 use Rattle.std.specs.Option.{option_to_list}
-use Rattle.std.specs.Prelude.{◌==◌, if◌then◌else◌, count_by, flat_map, nat_lt, slice_get}
+use Rattle.std.specs.Prelude.{◌==◌, if◌then◌else◌, count_by, flat_map, nat_lt}
 use Rattle.ir_module.specs.declared.tree.Block.{Block}
 use Rattle.ir_module.specs.declared.tree.Function.{Function}
 use Rattle.ir_module.specs.declared.tree.Inst.{Inst}
@@ -14,7 +14,7 @@ use Rattle.ir_module.specs.declared.tree.Phi.{Phi}
 use Rattle.ir_module.specs.Numbered.{defined_once, results_of}
 use Rattle.ir_module.specs.Operands.{step_defines}
 use Rattle.ir_module.specs.Tree.{blocks_or_none}
-use Rattle.ir_module.specs.Steps.{Step, PhiAt, InstAt, TermAt, NoStep, steps_of, steps_of_block}
+use Rattle.ir_module.specs.Steps.{PhiAt, InstAt, TermAt, steps_of_block}
 use Rattle.ir_values.specs.declared.ids.LocalId.{LocalId}
 use Rattle.ir_values.specs.declared.int.Width.{Width}
 use Rattle.ir_values.specs.declared.int.Width.TheVariants.{W1}
@@ -23,16 +23,15 @@ use Rattle.ir_values.specs.declared.ty.Ty.TheVariants as ty
 use Rattle.ir_values.specs.declared.value.Value.{Value}
 use Rattle.kept_items.specs.declared.item.Item.{Item}
 use Rattle.kept_items.specs.declared.item.Item.TheVariants as item
-use Rattle.kept_items.specs.declared.target.Caps.{Caps}
 use Rattle.kept_items.specs.declared.target.Target.{Target}
 use Rattle.kept_items.specs.declared.target.Target.TheVariants.{Base, Adaptive}
 use Rattle.kept_items.specs.declared.val.Dyn.{Dyn}
 use Rattle.residue.specs.declared.parts.Jump.{Jump}
 use Rattle.residue.specs.declared.parts.Part.{Part}
 use Rattle.residue.specs.declared.parts.Residue.{Residue}
-use Rattle.residue.specs.Functions.{Called, all_items, declaration, declared_of, is_constant, parameters}
+use Rattle.residue.specs.Functions.{all_items, declaration, declared_of, is_constant, parameters}
 use Rattle.residue.specs.Instructions.{Words, equal_test, instructions, local, names_of_item, names_of_reading, print_items, read_into, reads, side_reads}
-use Rattle.residue.specs.Phases.{in_phase, phases_rise}
+use Rattle.residue.specs.Phases.{phases_rise}
 use Rattle.residue.specs.Printed.{beginning, edges_to, initialize_call, locals_from, names_of, names_of_items, names_of_params, names_of_part, print_part, print_parts, print_phis, printed, printed_entry, words}
 use Rattle.residue.specs.Scopes.{items_of, jumps}
 use Rattle.residue.specs.Valid.{Valid, all_tails, base_permits, base_permits_tail, begins, leads_on}

@@ -1,17 +1,13 @@
 -- The parts of order that the forms of the printed instructions show: flags, integers, results, written values and types.
-use Rattle.std.proofs.Common.{◌≡◌, ℕ, zero, suc, ◌+◌, ◌<◌, ◌≤◌, Bool, true, false, ◌&&◌, not, Option, None, Some, List, [], ◌∷◌, ◌++◌, length, map, refl, sym, ap, ◌∙◌, subst, arith}
+use Rattle.std.proofs.Common.{◌≡◌, ℕ, zero, suc, ◌+◌, Bool, true, false, ◌&&◌, not, Option, None, Some, List, [], ◌∷◌, ◌++◌, length, map, refl, ap, ◌∙◌}
 use Rattle.std.proofs.lemmas.Bool.{and_parts}
 use Rattle.std.specs.List.{list_all, list_any}
-use Rattle.std.specs.Prelude.{◌||◌, ◌==◌, ⊤, if◌then◌else◌, flat_map, is_some, slice_get}
-use Rattle.ir_module.specs.declared.tree.Function.{Function}
+use Rattle.std.specs.Prelude.{◌||◌, if◌then◌else◌, slice_get}
 use Rattle.ir_module.specs.declared.tree.Inst.{Inst}
-use Rattle.ir_module.specs.declared.tree.Module.{Module}
-use Rattle.ir_module.specs.declared.tree.Operand.{Operand}
 use Rattle.ir_module.specs.declared.tree.Operand.TheVariants as operand
-use Rattle.ir_module.specs.Numbered.{all_steps, calls_whole, flags_allowed, has_result, is_void, is_written, local_type_passes, not_void, on_integers, type_passes}
+use Rattle.ir_module.specs.Numbered.{all_steps, calls_whole, flags_allowed, has_result, is_void, is_written, not_void, on_integers, type_passes}
 use Rattle.ir_module.specs.Operands.{step_operands}
-use Rattle.ir_module.specs.Steps.{Step, PhiAt, InstAt, TermAt, NoStep}
-use Rattle.ir_values.specs.declared.ids.BlockId.{BlockId}
+use Rattle.ir_module.specs.Steps.{Step, InstAt, TermAt}
 use Rattle.ir_values.specs.declared.int.Width.{Width}
 use Rattle.ir_values.specs.declared.int.Width.TheVariants.{W1, W64}
 use Rattle.ir_values.specs.declared.name.Name.{Name}
@@ -31,15 +27,15 @@ use Rattle.residue.specs.declared.parts.Residue.{Residue}
 use Rattle.residue.specs.declared.parts.Tail.{Tail}
 use Rattle.residue.specs.declared.parts.Tail.TheVariants as tail
 use Rattle.residue.specs.Functions.{all_items, is_constant}
-use Rattle.residue.specs.Instructions.{Words, equal_test, instructions, names_of_item, named_value, operand_of, print_tail, read_into, reads, side_operand, typed_operand}
+use Rattle.residue.specs.Instructions.{Words, instructions, names_of_item, named_value, operand_of, print_tail, read_into, reads, side_operand, typed_operand}
 use Rattle.residue.specs.Printed.{argument, edges_to, entries, locals_from, names_of, names_of_items, names_of_params, names_of_part, printed, printed_entry, words}
-use Rattle.residue.specs.Scopes.{gives_of, item_uses, items_of, jump_args, jumps, tail_uses, uses_of}
+use Rattle.residue.specs.Scopes.{gives_of, item_uses, items_of, jump_args, tail_uses}
 use Rattle.residue.specs.Valid.{Valid, all_tails, is_constant_result, item_allowed, item_compares, tail_compares, val_has}
 use Rattle.printed_residue.specs.Places.{names_before}
-use Rattle.printed_residue.proofs.Declared.{Among, fits}
+use Rattle.printed_residue.proofs.Declared.{fits}
 use Rattle.printed_residue.proofs.Facts.{passes-here}
 use Rattle.numbered_residue.proofs.Forms.{entries-pass, equal-passes, index-passes, item-uses-pass, jump-args-pass}
-use Rattle.numbered_residue.proofs.Passing.{Passes, all-both, all-flat, all-map, all-steps, entry-passes}
+use Rattle.numbered_residue.proofs.Passing.{all-both, all-map, all-steps, entry-passes}
 
 -- what one side of a comparison is read into
 abbrev side_names : Bool → List (Option ℕ × Ty)

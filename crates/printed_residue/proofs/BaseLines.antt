@@ -1,15 +1,14 @@
 -- What a run does at the lines and at the return of a Base residue.
-use Rattle.std.proofs.Common.{◌≡◌, ℕ, zero, suc, ◌+◌, ◌-◌, ◌<◌, ◌≤◌, Bool, true, false, ◌&&◌, not, Option, None, Some, List, [], ◌∷◌, ◌++◌, length, take, refl, sym, ap, ◌∙◌, subst, arith, length-append, append-nil}
+use Rattle.std.proofs.Common.{◌≡◌, ℕ, zero, suc, ◌+◌, ◌-◌, ◌<◌, ◌≤◌, true, false, ◌&&◌, not, None, Some, List, [], ◌∷◌, ◌++◌, length, take, refl, sym, ap, ◌∙◌, subst, arith, length-append, append-nil}
 use Rattle.std.proofs.lemmas.Bool.{and_parts}
 use Rattle.std.specs.List.{list_all}
-use Rattle.std.specs.Prelude.{◌==◌, ⊤, if◌then◌else◌, codes, flat_map, nat_lt, slice_get}
+use Rattle.std.specs.Prelude.{◌==◌, if◌then◌else◌, codes, flat_map, nat_lt, slice_get}
 use Rattle.backend_api.specs.declared.operation.Answer.{Answer}
 use Rattle.ir_module.specs.declared.tree.Block.{Block}
-use Rattle.ir_module.specs.declared.tree.Inst.{Inst}
 use Rattle.ir_module.specs.declared.tree.Module.{Module}
 use Rattle.ir_module.specs.declared.tree.Operand.TheVariants as operand
 use Rattle.ir_module.specs.declared.tree.Term.TheVariants as term
-use Rattle.ir_module.specs.Entry.{Entry, entry_of}
+use Rattle.ir_module.specs.Entry.{Entry}
 use Rattle.ir_values.specs.declared.class.Class.TheVariants as class
 use Rattle.ir_values.specs.declared.ids.FuncId.{FuncId}
 use Rattle.ir_values.specs.declared.ty.Ty.{Ty}
@@ -31,28 +30,27 @@ use Rattle.kept_items.specs.Items.{Did, Gave, Stopped, Senseless, did, valued}
 use Rattle.residue.specs.declared.parts.Line.TheVariants as line
 use Rattle.residue.specs.declared.parts.Part.{Part}
 use Rattle.residue.specs.declared.parts.Residue.{Residue}
-use Rattle.residue.specs.declared.parts.Tail.{Tail}
 use Rattle.residue.specs.declared.parts.Tail.TheVariants as tail
 use Rattle.residue.specs.Functions.{all_items, initialize}
-use Rattle.residue.specs.Instructions.{Words, block_number, instructions, named_value, names_of_item, print_items, print_tail}
+use Rattle.residue.specs.Instructions.{Words, block_number, instructions, named_value, print_items, print_tail}
 use Rattle.residue.specs.Phases.{in_phase, phase_of, phases_rise}
 use Rattle.residue.specs.Printed.{base_blocks, block, initialize_call, names_of_items, print_phase, printed, printed_entry, words}
 use Rattle.residue.specs.Scopes.{item_uses, items_of}
-use Rattle.residue.specs.Valid.{Valid, all_known, base_permits, base_permits_tail, handle_below, is_base_record, is_known, phases_in_order}
+use Rattle.residue.specs.Valid.{Valid, all_known, base_permits, base_permits_tail, handle_below, is_base_record, is_known}
 use Rattle.printed_residue.specs.Laws.{BaseItemDoes, IsGood}
-use Rattle.printed_residue.specs.Places.{AtBase, BitsBelow, base_index, in_entry, lowered_state, naming, phase_after, ticks}
+use Rattle.printed_residue.specs.Places.{AtBase, base_index, in_entry, lowered_state, naming, phase_after, ticks}
 use Rattle.printed_residue.proofs.Bits.{GaveBelow}
 use Rattle.printed_residue.proofs.Blocks.{print-append, stand-item}
 use Rattle.printed_residue.proofs.Calls.{ResultsBelow}
-use Rattle.printed_residue.proofs.Ends.{entry-is, initialize-declared}
+use Rattle.printed_residue.proofs.Ends.{initialize-declared}
 use Rattle.printed_residue.proofs.Facts.{passes-here, passes-mid, take-all}
 use Rattle.printed_residue.proofs.Items.{item-below, item-runs, results-below}
 use Rattle.printed_residue.proofs.Lines.{item-among, item-declared, record-first, uses-pass}
 use Rattle.printed_residue.proofs.Looks.{differ, same-numbers}
 use Rattle.printed_residue.proofs.Naming.{last_name}
 use Rattle.printed_residue.proofs.Rising.{after-few, after-next, all-none-named, filter-append, filter-passes, in-phase-cut, none-named, phase-few, rise-early, rise-late, rise-rest, rises}
-use Rattle.printed_residue.proofs.Running.{Passed, Runs, low}
-use Rattle.printed_residue.proofs.Scoped.{cut-items, items-next, items-same}
+use Rattle.printed_residue.proofs.Running.{Runs, low}
+use Rattle.printed_residue.proofs.Scoped.{cut-items, items-next}
 use Rattle.printed_residue.proofs.Standing.{StandAt}
 use Rattle.printed_residue.proofs.Steps.{AllHave, Has, declared-does, inst-tick}
 use Rattle.printed_residue.proofs.Tails.{Walk, tail-returns, walk-goes}

@@ -23,7 +23,7 @@ use Rattle.qir_meaning.specs.Effects.{known_bit, reading, first_result}
 use Rattle.qir_meaning.specs.State.{Env, State, Stuck, bit_of}
 use Rattle.qir_meaning.specs.State as run
 use Rattle.kept_items.specs.declared.val.Val.{Val}
-use Rattle.kept_items.specs.declared.val.Val.TheVariants.{Known, Dynamic}
+use Rattle.kept_items.specs.declared.val.Val.TheVariants.{Known}
 use Rattle.kept_items.specs.Items.{valued, Got, Bit, Unset, NoResult, got, bit_read, arg_of, args_of, one_arg}
 
 -- a function is declared with this name and class

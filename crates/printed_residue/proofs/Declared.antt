@@ -1,18 +1,15 @@
 -- Each function that an item calls is declared in the printed module, with its class.
-use Rattle.std.proofs.Common.{◌≡◌, ℕ, zero, suc, ◌+◌, Bool, true, false, ◌&&◌, not, Option, None, Some, List, [], ◌∷◌, ◌++◌, length, map, take, refl, sym, ap, ◌∙◌, subst, arith, option_map}
+use Rattle.std.proofs.Common.{◌≡◌, ℕ, zero, suc, ◌+◌, Bool, true, false, not, Option, None, Some, List, [], ◌∷◌, ◌++◌, length, map, take, refl, sym, ap, ◌∙◌, subst, arith, option_map}
 use Rattle.std.proofs.lemmas.Bool.{and_parts}
 use Rattle.std.proofs.lemmas.Grind.{flat_map-append}
 use Rattle.std.proofs.lemmas.List.Elements.{All-cons, All-nil}
-use Rattle.std.proofs.lemmas.List.Folds.{list_all-append, list_any-append}
 use Rattle.std.proofs.lemmas.List.Sums.{sum_by-cons}
 use Rattle.std.proofs.lemmas.Option.{slice_get-map}
 use Rattle.std.specs.Cmp.{unsigned_Decides}
 use Rattle.std.specs.Cmp.Lexicographic.{pointwise_decides}
-use Rattle.std.specs.List.{All, list_all, list_any, starts_with}
-use Rattle.std.specs.Prelude.{◌||◌, ◌==◌, ⊤, count_by, if◌then◌else◌, flat_map, nat_eq, slice_get, codes, cond}
-use Rattle.ir_module.specs.declared.tree.Function.{Function}
-use Rattle.ir_module.specs.declared.tree.Module.{Module}
-use Rattle.ir_module.specs.Classes.{class_of_function, parameter_types}
+use Rattle.std.specs.List.{All, list_all, starts_with}
+use Rattle.std.specs.Prelude.{◌||◌, ⊤, count_by, if◌then◌else◌, flat_map, nat_eq, slice_get, cond}
+use Rattle.ir_module.specs.Classes.{class_of_function}
 use Rattle.ir_values.specs.declared.class.Class.{Class}
 use Rattle.ir_values.specs.declared.class.Class.TheVariants as class
 use Rattle.ir_values.specs.declared.int.Width.{Width}
@@ -21,8 +18,8 @@ use Rattle.ir_values.specs.declared.ty.Ty.{Ty}
 use Rattle.ir_values.specs.declared.ty.Ty.TheVariants as ty
 use Rattle.ir_values.specs.declared.value.Value.{Value}
 use Rattle.ir_values.specs.declared.value.Value.TheVariants as value
-use Rattle.ir_values.specs.Calls.{class_of, same_text, same_words}
-use Rattle.ir_values.specs.ClassTypes.{HasTypes, IsInstruction, is_result_type}
+use Rattle.ir_values.specs.Calls.{class_of, same_text}
+use Rattle.ir_values.specs.ClassTypes.{HasTypes, is_result_type}
 use Rattle.ir_values.specs.Names.{instruction_prefix}
 use Rattle.ir_values.specs.Types.{IsTy, signature}
 use Rattle.ir_values.proofs.ClassLemmas.{class-tells}
@@ -34,13 +31,12 @@ use Rattle.kept_items.specs.declared.target.Target.{Target}
 use Rattle.kept_items.specs.declared.val.Val.{Val}
 use Rattle.kept_items.specs.declared.val.Val.TheVariants.{Known, Dynamic}
 use Rattle.residue.specs.declared.parts.Residue.{Residue}
-use Rattle.residue.specs.Functions.{Called, all_items, called, calls_of, calls_of_residue, declaration, declared_of, first_uses, initialize, is_among, is_constant, is_named, parameters, place_among, read_name, read_result, reading, record_name, types_of}
+use Rattle.residue.specs.Functions.{Called, all_items, called, calls_of, calls_of_residue, declaration, declared_of, first_uses, initialize, is_among, is_constant, parameters, place_among, read_name, read_result, reading, record_name, types_of}
 use Rattle.residue.specs.Printed.{printed, words}
 use Rattle.residue.specs.Scopes.{gives_of, item_uses}
 use Rattle.residue.specs.Valid.{all_alike, calls_alike, is_instruction, is_operation, operation_known, output_known, recorded_type, same_types, takes_types, val_has}
 use Rattle.printed_residue.proofs.Calls.{Declares, measures, op_class}
 use Rattle.printed_residue.proofs.Facts.{cut, passes-here}
-use Rattle.printed_residue.proofs.Looks.{same-numbers}
 use Rattle.printed_residue.proofs.Running.{ReadDeclared}
 
 clash : true ≡ false → ⊥

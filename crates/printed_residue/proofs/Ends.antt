@@ -1,21 +1,17 @@
 -- Where a run begins, the marks that it passes, and what it does at the tail of an Adaptive part.
-use Rattle.std.proofs.Common.{◌≡◌, ◌⊎◌, inl, inr, ℕ, zero, suc, ◌+◌, ◌-◌, ◌<◌, ◌≤◌, Bool, true, false, ◌&&◌, Option, None, Some, List, [], ◌∷◌, ◌++◌, length, map, take, refl, sym, ap, ◌∙◌, subst, arith, length-append, append-nil, ⊎_elim}
+use Rattle.std.proofs.Common.{◌≡◌, ℕ, zero, suc, ◌+◌, ◌-◌, ◌<◌, Bool, true, false, Option, None, Some, List, [], ◌∷◌, ◌++◌, length, map, take, refl, sym, ap, ◌∙◌, subst, arith, length-append, append-nil}
 use Rattle.std.proofs.lemmas.Bool.{and_parts}
 use Rattle.std.proofs.lemmas.Option.{slice_get-map}
 use Rattle.std.specs.List.{list_all}
-use Rattle.std.specs.Prelude.{◌==◌, ⊤, if◌then◌else◌, flat_map, nat_lt, slice_get, slice_index_or, option_map, replicate}
+use Rattle.std.specs.Prelude.{◌==◌, if◌then◌else◌, flat_map, nat_lt, slice_get, slice_index_or, option_map, replicate}
 use Rattle.backend_api.specs.declared.operation.Answer.{Answer}
 use Rattle.ir_module.specs.declared.tree.Block.{Block}
-use Rattle.ir_module.specs.declared.tree.Function.{Function}
-use Rattle.ir_module.specs.declared.tree.Inst.{Inst}
 use Rattle.ir_module.specs.declared.tree.Operand.TheVariants as operand
 use Rattle.ir_module.specs.declared.tree.Module.{Module}
 use Rattle.ir_module.specs.Entry.{Entry, entry_of}
 use Rattle.ir_values.specs.declared.class.Class.TheVariants as class
-use Rattle.ir_values.specs.declared.ids.BlockId.{BlockId}
 use Rattle.ir_values.specs.declared.ids.FuncId.{FuncId}
 use Rattle.ir_values.specs.declared.int.Width.{Width}
-use Rattle.ir_values.specs.declared.name.Name.{Name}
 use Rattle.ir_values.specs.declared.ty.Ty.{Ty}
 use Rattle.ir_values.specs.declared.ty.Ty.TheVariants as ty
 use Rattle.ir_values.specs.declared.value.Value.{Value}
@@ -24,7 +20,7 @@ use Rattle.ir_values.specs.Calls.{class_of}
 use Rattle.ir_values.specs.Int.{IntValue}
 use Rattle.ir_values.specs.Types.{signature}
 use Rattle.qir_meaning.specs.Effects.{is_one}
-use Rattle.qir_meaning.specs.Moves.{block_in, entry_for, phis_take}
+use Rattle.qir_meaning.specs.Moves.{entry_for}
 use Rattle.qir_meaning.specs.Runs.{start}
 use Rattle.qir_meaning.specs.State.{Env, State, value_of}
 use Rattle.qir_meaning.specs.code.Simulation.{Off, On, Whole, tick, tick_of, whole_start}
@@ -32,13 +28,10 @@ use Rattle.qir_meaning.specs.code.Steps.{returned}
 use Rattle.kept_items.specs.declared.target.Caps.{Caps}
 use Rattle.kept_items.specs.declared.target.Target.{Target}
 use Rattle.kept_items.specs.declared.target.Target.TheVariants.{Adaptive}
-use Rattle.kept_items.specs.declared.val.Dyn.{Dyn}
 use Rattle.kept_items.specs.declared.val.Val.{Val}
-use Rattle.kept_items.specs.declared.val.Val.TheVariants.{Known, Dynamic}
+use Rattle.kept_items.specs.declared.val.Val.TheVariants.{Known}
 use Rattle.kept_items.specs.Items.{valued}
 use Rattle.residue.specs.declared.parts.Jump.{Jump}
-use Rattle.residue.specs.declared.parts.Line.{Line}
-use Rattle.residue.specs.declared.parts.Line.TheVariants as line
 use Rattle.residue.specs.declared.parts.Part.{Part}
 use Rattle.residue.specs.declared.parts.Residue.{Residue}
 use Rattle.residue.specs.declared.parts.Tail.{Tail}
@@ -47,17 +40,17 @@ use Rattle.residue.specs.Functions.{Called, calls_of_residue, declaration, decla
 use Rattle.residue.specs.Instructions.{block_number, named_value, operand_of, print_items, print_tail}
 use Rattle.residue.specs.Printed.{argument, beginning, edges_to, entries, initialize_call, locals_from, names_of, print_part, printed, printed_entry, words}
 use Rattle.residue.specs.Scopes.{gives_of, item_gives, items_of, jump_args, jumps, param_gives, part_gives, tail_uses}
-use Rattle.residue.specs.Valid.{Valid, all_agree, begins, fits_part, is_within, leads_on, tail_within}
+use Rattle.residue.specs.Valid.{Valid, all_agree, begins, fits_part, is_within, leads_on}
 use Rattle.printed_residue.specs.Laws.{Carries, IsGood}
 use Rattle.printed_residue.specs.Places.{AtLine, HaveValues, at_name, by_int, case_jump, in_entry, is_in, line_index, lowered_state, naming, names_before, scope_at, taken, value_of_number}
 use Rattle.printed_residue.proofs.Calls.{Declares}
 use Rattle.printed_residue.proofs.Declared.{Among, declared-class}
-use Rattle.printed_residue.proofs.Edges.{Took, edge-entry, phis-length, phis-run}
+use Rattle.printed_residue.proofs.Edges.{Took, edge-entry, phis-run}
 use Rattle.printed_residue.proofs.Facts.{passes-here, passes-piece, take-all}
 use Rattle.printed_residue.proofs.Lines.{first, here, phis, scoped, stands, val-has, distinct}
 use Rattle.printed_residue.proofs.Looks.{differ, same-numbers}
-use Rattle.printed_residue.proofs.Naming.{Named, params-enough, part-params-named}
-use Rattle.printed_residue.proofs.Scoped.{ValIn, in-append, items-same, val-in}
+use Rattle.printed_residue.proofs.Naming.{params-enough, part-params-named}
+use Rattle.printed_residue.proofs.Scoped.{val-in}
 use Rattle.printed_residue.proofs.Steps.{Has, declared-does, inst-tick, operand-has}
 use Rattle.printed_residue.proofs.Tails.{TailHas, edge-goes, tail-goes, tail-returns}
 

@@ -1,8 +1,8 @@
 -- What the printed instructions of any item do, and that results stay below.
-use Rattle.std.proofs.Common.{◌≡◌, ℕ, suc, ◌+◌, ◌<◌, ◌≤◌, Bool, true, false, Option, None, Some, List, [], ◌∷◌, ◌++◌, length, map, Result, Ok, Err, refl, sym, ap, ◌∙◌, subst, arith}
+use Rattle.std.proofs.Common.{◌≡◌, ℕ, ◌+◌, ◌<◌, ◌≤◌, Bool, true, Some, List, [], ◌∷◌, length, map, Result, Ok, Err, subst, arith}
 use Rattle.std.proofs.lemmas.Bool.{and_parts}
 use Rattle.std.specs.List.{list_all}
-use Rattle.std.specs.Prelude.{⊤, nat_lt, slice_get}
+use Rattle.std.specs.Prelude.{⊤, nat_lt}
 use Rattle.ir_module.specs.declared.tree.Block.{Block}
 use Rattle.ir_module.specs.declared.tree.Module.{Module}
 use Rattle.ir_values.specs.declared.cause.Cause.{Cause}
@@ -28,11 +28,11 @@ use Rattle.kept_items.specs.declared.item.Item.{Item}
 use Rattle.kept_items.specs.declared.item.Item.TheVariants as item
 use Rattle.kept_items.specs.declared.val.Val.{Val}
 use Rattle.kept_items.specs.declared.val.Val.TheVariants.{Known, Dynamic}
-use Rattle.kept_items.specs.Items.{Did, Gave, Stopped, Senseless, Got, Bit, Unset, NoResult, binary_did, bit_read, computed, convert_did, did, icmp_did, output_did, read_did, recorded_did, select_did, valued}
+use Rattle.kept_items.specs.Items.{Did, Got, Bit, Unset, NoResult, binary_did, bit_read, computed, convert_did, did, icmp_did, output_did, read_did, recorded_did, select_did, valued}
 use Rattle.residue.specs.declared.parts.Residue.{Residue}
 use Rattle.residue.specs.Functions.{read_name, record_name, types_of}
-use Rattle.residue.specs.Instructions.{Words, instructions, names_of_item, reads}
-use Rattle.residue.specs.Scopes.{item_gives, item_uses}
+use Rattle.residue.specs.Instructions.{Words, instructions, names_of_item}
+use Rattle.residue.specs.Scopes.{item_uses}
 use Rattle.residue.specs.Valid.{handle_below}
 use Rattle.printed_residue.specs.Places.{BitsBelow, ticks}
 use Rattle.printed_residue.proofs.Bits.{GaveBelow, operation-below}

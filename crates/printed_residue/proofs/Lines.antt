@@ -1,64 +1,53 @@
 -- What a run does at the lines and at the tail of an Adaptive part.
-use Rattle.std.proofs.Common.{◌≡◌, ◌⊎◌, inl, inr, ℕ, zero, suc, ◌+◌, ◌<◌, ◌≤◌, Bool, true, false, ◌&&◌, Option, None, Some, List, [], ◌∷◌, ◌++◌, length, map, take, refl, sym, ap, ◌∙◌, subst, arith, length-append, append_assoc, append-nil, ⊎_elim}
+use Rattle.std.proofs.Common.{◌≡◌, ◌⊎◌, inl, inr, ℕ, suc, ◌+◌, ◌<◌, Bool, true, false, ◌&&◌, Some, List, [], ◌∷◌, ◌++◌, length, take, refl, sym, ap, ◌∙◌, subst, arith, append_assoc, append-nil, ⊎_elim}
 use Rattle.std.proofs.lemmas.Bool.{and_parts}
 use Rattle.std.proofs.lemmas.Grind.{flat_map-append}
 use Rattle.std.proofs.lemmas.List.Folds.{list_all-append}
-use Rattle.std.proofs.lemmas.Option.{slice_get_within}
 use Rattle.std.specs.List.{list_all}
-use Rattle.std.specs.Prelude.{◌||◌, ◌==◌, ⊤, if◌then◌else◌, flat_map, nat_lt, slice_get, slice_index_or}
+use Rattle.std.specs.Prelude.{◌||◌, ◌==◌, flat_map, slice_get}
 use Rattle.ir_module.specs.declared.tree.Block.{Block}
-use Rattle.ir_module.specs.declared.tree.Inst.{Inst}
 use Rattle.ir_module.specs.declared.tree.Module.{Module}
 use Rattle.ir_values.specs.declared.class.Class.TheVariants as class
 use Rattle.ir_values.specs.declared.ids.BlockId.{BlockId}
 use Rattle.ir_values.specs.declared.ids.FuncId.{FuncId}
 use Rattle.ir_values.specs.declared.int.Width.{Width}
 use Rattle.ir_values.specs.declared.ty.Ty.{Ty}
-use Rattle.ir_values.specs.declared.value.Value.{Value}
 use Rattle.ir_values.specs.declared.value.Value.TheVariants as value
 use Rattle.ir_values.specs.Int.{IntValue}
-use Rattle.qir_meaning.specs.Effects.{is_one}
-use Rattle.qir_meaning.specs.Moves.{block_in, phis_take}
-use Rattle.qir_meaning.specs.State.{Env, State, value_of}
-use Rattle.qir_meaning.specs.code.Simulation.{GoesBy, Off, On, Whole, tick}
-use Rattle.qir_meaning.specs.code.Steps.{returned}
+use Rattle.qir_meaning.specs.Moves.{block_in}
+use Rattle.qir_meaning.specs.State.{Env, State}
+use Rattle.qir_meaning.specs.code.Simulation.{Whole}
 use Rattle.kept_items.specs.declared.item.Item.{Item}
 use Rattle.kept_items.specs.declared.item.Item.TheVariants as item
 use Rattle.kept_items.specs.declared.target.Caps.{Caps}
 use Rattle.kept_items.specs.declared.target.Target.{Target}
 use Rattle.kept_items.specs.declared.target.Target.TheVariants.{Adaptive}
-use Rattle.kept_items.specs.declared.val.Dyn.{Dyn}
 use Rattle.kept_items.specs.declared.val.Val.{Val}
 use Rattle.kept_items.specs.declared.val.Val.TheVariants.{Known, Dynamic}
-use Rattle.kept_items.specs.Items.{Did, Gave, Stopped, Senseless, did, valued}
-use Rattle.residue.specs.declared.parts.Jump.{Jump}
-use Rattle.residue.specs.declared.parts.Line.{Line}
+use Rattle.kept_items.specs.Items.{Did, Gave, Stopped, Senseless, did}
 use Rattle.residue.specs.declared.parts.Line.TheVariants as line
 use Rattle.residue.specs.declared.parts.Part.{Part}
 use Rattle.residue.specs.declared.parts.Residue.{Residue}
-use Rattle.residue.specs.declared.parts.Tail.{Tail}
-use Rattle.residue.specs.declared.parts.Tail.TheVariants as tail
 use Rattle.residue.specs.Functions.{all_items, calls_of_residue}
-use Rattle.residue.specs.Instructions.{Words, block_number, instructions, named_value, names_of_item, operand_of, print_items, print_tail}
-use Rattle.residue.specs.Printed.{argument, beginning, edges_to, names_of, names_of_items, names_of_params, print_part, printed, words}
-use Rattle.residue.specs.Scopes.{gives_of, item_gives, item_uses, items_of, jump_args, jumps, param_gives, part_gives, part_uses, tail_uses, uses_of}
-use Rattle.residue.specs.Valid.{Valid, all_agree, all_alike, all_differ, handle_below, is_instruction, is_within, items_within, leads_on, operation_known, output_known, part_within, tail_within, val_has}
-use Rattle.printed_residue.specs.Laws.{Carries, IsGood, ItemDoes}
-use Rattle.printed_residue.specs.Places.{AtLine, BitsBelow, HaveValues, Keeps, Takes, at_name, by_int, case_jump, in_entry, is_in, line_index, lowered_state, naming, names_before, scope_at, taken, ticks, value_of_number}
+use Rattle.residue.specs.Instructions.{Words, block_number, instructions, print_items}
+use Rattle.residue.specs.Printed.{beginning, edges_to, names_of, names_of_items, print_part, printed, words}
+use Rattle.residue.specs.Scopes.{gives_of, item_gives, item_uses, items_of, param_gives, part_gives, part_uses, tail_uses, uses_of}
+use Rattle.residue.specs.Valid.{Valid, all_alike, all_differ, handle_below, is_instruction, items_within, part_within, tail_within}
+use Rattle.printed_residue.specs.Laws.{IsGood, ItemDoes}
+use Rattle.printed_residue.specs.Places.{AtLine, BitsBelow, HaveValues, Keeps, Takes, at_name, in_entry, is_in, names_before, scope_at, ticks, value_of_number}
 use Rattle.printed_residue.proofs.Bits.{GaveBelow}
 use Rattle.printed_residue.proofs.Calls.{ResultsBelow}
 use Rattle.printed_residue.proofs.Blocks.{part-stands, print-one, stand-item}
 use Rattle.printed_residue.proofs.Declared.{Among, among-piece, equal-declared, fits, operation-declared, output-declared, output-types, read-declared}
-use Rattle.printed_residue.proofs.Edges.{Took, edge-entry, phis-length, phis-run}
-use Rattle.printed_residue.proofs.Facts.{cut, passes-here, passes-mid, passes-piece, take-all}
+use Rattle.printed_residue.proofs.Edges.{phis-length}
+use Rattle.printed_residue.proofs.Facts.{passes-here, passes-piece}
 use Rattle.printed_residue.proofs.Items.{ItemDeclared, RecordFirst, item-below, item-runs, results-below}
 use Rattle.printed_residue.proofs.Looks.{same-numbers}
-use Rattle.printed_residue.proofs.Naming.{Named, before, before-length, item-named, last_name, names-enough, params-enough, part-params-named, scope-early}
-use Rattle.printed_residue.proofs.Running.{GivenAt, Passed, Runs, low}
-use Rattle.printed_residue.proofs.Scoped.{ArgsIn, ValIn, args-in, cut-items, in-append, item-in, items-next, items-same, val-in}
+use Rattle.printed_residue.proofs.Naming.{before-length, item-named, last_name, names-enough, scope-early}
+use Rattle.printed_residue.proofs.Running.{GivenAt, Runs, low}
+use Rattle.printed_residue.proofs.Scoped.{ArgsIn, ValIn, cut-items, in-append, item-in, items-next}
 use Rattle.printed_residue.proofs.Standing.{StandAt, get-behind}
 use Rattle.printed_residue.proofs.Steps.{AllHave, Has}
-use Rattle.printed_residue.proofs.Tails.{TailHas, edge-goes, tail-goes, tail-returns}
 
 -- what is in scope has its value
 pub val-has : (r : Residue) (scope : List (ℕ × Width)) (ds : List IntValue) (env : Env) → HaveValues r scope ds env → (a : Val) → ValIn scope a → Has (words r) ds env a

@@ -1,20 +1,17 @@
 -- The items of a Base residue, whose phases don't fall, in the blocks of their phases.
-use Rattle.std.proofs.Common.{◌≡◌, ℕ, zero, suc, ◌+◌, ◌-◌, ◌<◌, ◌≤◌, Bool, true, false, ◌&&◌, not, Some, List, [], ◌∷◌, ◌++◌, length, refl, sym, ap, ◌∙◌, subst, arith, length-append, append-nil}
+use Rattle.std.proofs.Common.{◌≡◌, ℕ, ◌<◌, ◌≤◌, Bool, true, false, ◌&&◌, not, List, [], ◌∷◌, ◌++◌, refl, ap, ◌∙◌, arith}
 use Rattle.std.proofs.lemmas.Bool.{and_parts}
 use Rattle.std.specs.List.{list_all}
 use Rattle.std.specs.Prelude.{◌==◌, if◌then◌else◌, filter, nat_lt}
-use Rattle.ir_module.specs.declared.tree.Inst.{Inst}
 use Rattle.kept_items.specs.declared.item.Item.{Item}
 use Rattle.kept_items.specs.declared.item.Item.TheVariants as item
 use Rattle.residue.specs.Functions.{is_named}
-use Rattle.residue.specs.Instructions.{Words, instructions, names_of_item, print_items}
+use Rattle.residue.specs.Instructions.{names_of_item}
 use Rattle.residue.specs.Phases.{in_phase, phase_of, phases_rise}
 use Rattle.residue.specs.Printed.{names_of_items}
 use Rattle.residue.specs.Valid.{base_permits}
 use Rattle.printed_residue.specs.Places.{phase_after}
-use Rattle.printed_residue.proofs.Blocks.{print-append, stand-item}
 use Rattle.printed_residue.proofs.Looks.{differ, same-itself}
-use Rattle.printed_residue.proofs.Standing.{StandAt}
 
 not-less : (a n : ℕ) → nat_lt a n ≡ false → n ≤ a
 not-less a n e = grind arith

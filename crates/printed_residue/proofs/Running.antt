@@ -1,5 +1,5 @@
 -- What the printed instructions of an item do, for every kind of item.
-use Rattle.std.proofs.Common.{◌≡◌, ℕ, suc, ◌+◌, ◌<◌, ◌≤◌, Bool, true, false, Option, None, Some, List, [], ◌∷◌, ◌++◌, length, map, get_or, Result, Ok, Err, refl, sym, ap, ◌∙◌, subst, arith}
+use Rattle.std.proofs.Common.{◌≡◌, ℕ, ◌+◌, ◌<◌, Bool, true, false, Option, None, Some, List, [], ◌∷◌, ◌++◌, length, map, Result, Ok, Err, refl, sym, ap, ◌∙◌, subst, arith}
 use Rattle.std.specs.Prelude.{⊤, if◌then◌else◌, slice_get, slice_set}
 use Rattle.backend_api.specs.declared.operation.Answer.{Answer}
 use Rattle.backend_api.specs.declared.operation.Answer.TheVariants as answer
@@ -52,10 +52,9 @@ use Rattle.kept_items.specs.declared.item.Item.{Item}
 use Rattle.kept_items.specs.declared.item.Item.TheVariants as item
 use Rattle.kept_items.specs.declared.val.Dyn.{Dyn}
 use Rattle.kept_items.specs.declared.val.Val.{Val}
-use Rattle.kept_items.specs.declared.val.Val.TheVariants.{Known, Dynamic}
 use Rattle.residue.specs.Functions.{read_name, record_name}
 use Rattle.residue.specs.Instructions.{Words, reads, local, named_value, operand_of, typed_operand, read_into, side_reads, side_operand, equal_test, instructions}
-use Rattle.kept_items.specs.Items.{valued, dynamic, Got, Bit, Unset, NoResult, got, bit_read, bit_int, read_did, Did, Gave, Stopped, Senseless, computed, binary_did, icmp_did, convert_did, select_did, gate_did, measure_did, operation_did, issued, recorded_did, output_did, args_of, did}
+use Rattle.kept_items.specs.Items.{valued, Got, Bit, Unset, NoResult, got, bit_read, bit_int, read_did, Did, Gave, Stopped, Senseless, computed, binary_did, icmp_did, convert_did, select_did, gate_did, measure_did, operation_did, issued, recorded_did, output_did, args_of, did}
 use Rattle.printed_residue.specs.Places.{at_name, lowered_state, BitsBelow}
 use Rattle.printed_residue.proofs.Calls.{Agree, AgreeOn, Declares, ValueBelow, agrees, by_got, measures, op_class, reading-is}
 use Rattle.printed_residue.proofs.Bits.{bit-named}

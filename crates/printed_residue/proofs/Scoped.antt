@@ -1,5 +1,5 @@
 -- Items among lines, and Dynamic values in scope.
-use Rattle.std.proofs.Common.{◌≡◌, ℕ, zero, suc, ◌+◌, Bool, true, false, ◌&&◌, not, Option, None, Some, List, [], ◌∷◌, ◌++◌, length, map, take, refl, sym, ap, ◌∙◌, subst, append_assoc, append-nil}
+use Rattle.std.proofs.Common.{◌≡◌, ℕ, suc, Bool, true, false, ◌&&◌, not, Some, List, [], ◌∷◌, ◌++◌, take, refl, sym, ap, ◌∙◌, subst, append_assoc, append-nil}
 use Rattle.std.proofs.lemmas.Bool.{and_parts}
 use Rattle.std.specs.List.{list_all, list_any}
 use Rattle.std.specs.Prelude.{◌||◌, ◌==◌, ⊤, is_some, if◌then◌else◌, flat_map, slice_get}
@@ -14,7 +14,7 @@ use Rattle.residue.specs.Scopes.{item_gives, item_uses, items_of, width_in}
 use Rattle.residue.specs.Valid.{all_differ, is_within, items_within}
 use Rattle.printed_residue.specs.Places.{is_in}
 use Rattle.printed_residue.proofs.Facts.{cut, take-one-more}
-use Rattle.printed_residue.proofs.Looks.{same-numbers, same-itself, differ}
+use Rattle.printed_residue.proofs.Looks.{differ}
 
 pub items-append : (a b : List Line) → items_of (a ++ b) ≡ items_of a ++ items_of b
 items-append [] b = refl

@@ -1,5 +1,5 @@
 -- Where instructions stand in a list that is put together from pieces.
-use Rattle.std.proofs.Common.{◌≡◌, ℕ, zero, suc, ◌+◌, Some, List, [], ◌∷◌, ◌++◌, length, refl, sym, ap, subst, arith, length-append, append_assoc}
+use Rattle.std.proofs.Common.{◌≡◌, ℕ, zero, suc, ◌+◌, Some, List, [], ◌∷◌, ◌++◌, length, ap, subst, arith, length-append, append_assoc}
 use Rattle.std.specs.Prelude.{⊤, slice_get}
 
 -- these stand in the list from this index on

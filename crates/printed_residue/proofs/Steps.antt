@@ -1,8 +1,7 @@
 -- One instruction of the printed module: its tick, its operands, and a further name.
-use Rattle.std.proofs.Common.{◌≡◌, ℕ, zero, suc, ◌+◌, ◌-◌, ◌<◌, ◌≤◌, true, Option, None, Some, List, [], ◌∷◌, ◌++◌, length, map, get_or, refl, sym, ap, ◌∙◌, subst, arith, length-append, ⊎_elim, append-nil}
-use Rattle.std.proofs.lemmas.Bool.{cases_lt}
+use Rattle.std.proofs.Common.{◌≡◌, ℕ, zero, suc, ◌+◌, ◌-◌, true, Option, None, Some, List, [], ◌∷◌, length, map, refl, sym, ap, ◌∙◌, arith}
 use Rattle.std.proofs.lemmas.List.{map-append}
-use Rattle.std.specs.Prelude.{⊤, slice_get, slice_set}
+use Rattle.std.specs.Prelude.{⊤, slice_get}
 use Rattle.backend_api.specs.declared.operation.Answer.{Answer}
 use Rattle.backend_api.specs.declared.operation.Arg.{Arg}
 use Rattle.backend_api.specs.declared.operation.Arg.TheVariants as arg
@@ -30,8 +29,6 @@ use Rattle.ir_values.specs.declared.ids.LocalId.{LocalId}
 use Rattle.ir_values.specs.declared.value.Value.{Value}
 use Rattle.ir_values.specs.declared.value.Value.TheVariants as value
 use Rattle.ir_values.specs.Int.{IntValue}
-use Rattle.ir_values.specs.Names.{name_text}
-use Rattle.ir_module.specs.Classes.{class_of_function}
 use Rattle.qir_meaning.specs.Effects.{argument, arguments, declared_call, first_result}
 use Rattle.qir_meaning.specs.Moves.{move, does, performs, calls, with_body, declared, with_values, step_move, given, block_in}
 use Rattle.qir_meaning.specs.Naming.{fixed_naming}
@@ -44,7 +41,6 @@ use Rattle.residue.specs.Instructions.{Words, named_value, operand_of, typed_ope
 use Rattle.kept_items.specs.Items.{dynamic, valued, arg_of, args_of, one_arg}
 use Rattle.printed_residue.specs.Places.{at_name, lowered_state}
 use Rattle.printed_residue.proofs.Calls.{AgreeOn, Declares}
-use Rattle.printed_residue.proofs.Looks.{set-here, set-elsewhere}
 
 -- the instruction behind the phis of a block
 

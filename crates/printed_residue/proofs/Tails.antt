@@ -1,10 +1,9 @@
 -- What the printed terminators do.
-use Rattle.std.proofs.Common.{◌≡◌, ℕ, zero, suc, ◌+◌, ◌-◌, ◌<◌, ◌≤◌, Option, None, Some, List, [], ◌∷◌, length, map, refl, sym, ap, ◌∙◌, arith}
+use Rattle.std.proofs.Common.{◌≡◌, ℕ, zero, suc, ◌+◌, ◌-◌, Option, None, Some, List, [], ◌∷◌, length, map, refl, ap, ◌∙◌, arith}
 use Rattle.std.proofs.lemmas.Option.{slice_get_past}
 use Rattle.std.specs.Prelude.{⊤, ◌==◌, if◌then◌else◌, Bool, true, false, slice_get}
 use Rattle.ir_module.specs.declared.tree.Block.{Block}
 use Rattle.ir_module.specs.declared.tree.Module.{Module}
-use Rattle.ir_module.specs.declared.tree.Phi.{Phi}
 use Rattle.ir_module.specs.declared.tree.Term.{Term}
 use Rattle.ir_module.specs.declared.tree.Term.TheVariants as term
 use Rattle.ir_module.specs.Steps.{Step, PhiAt, InstAt, TermAt, NoStep, step_at, step_in_module}
@@ -14,7 +13,7 @@ use Rattle.ir_values.specs.declared.value.Value.{Value}
 use Rattle.ir_values.specs.declared.value.Value.TheVariants as value
 use Rattle.ir_values.specs.Int.{IntValue}
 use Rattle.qir_meaning.specs.Effects.{is_one}
-use Rattle.qir_meaning.specs.Moves.{move, step_move, ends, given, phis_take, block_in, jump, leads_to, arrives, target_of, with_value, with_int}
+use Rattle.qir_meaning.specs.Moves.{move, step_move, ends, phis_take, block_in, jump, leads_to, arrives, target_of, with_value, with_int}
 use Rattle.qir_meaning.specs.Naming.{fixed_naming}
 use Rattle.qir_meaning.specs.code.Simulation.{Whole, Tick, On, Off, tick, tick_of, GoesBy}
 use Rattle.qir_meaning.specs.State.{Env, State, value_at, value_of}
@@ -24,9 +23,9 @@ use Rattle.residue.specs.declared.parts.Jump.{Jump}
 use Rattle.residue.specs.declared.parts.Tail.{Tail}
 use Rattle.residue.specs.declared.parts.Tail.TheVariants as tail
 use Rattle.kept_items.specs.declared.val.Val.{Val}
-use Rattle.residue.specs.Instructions.{Words, block_number, named_value, operand_of, print_tail}
+use Rattle.residue.specs.Instructions.{Words, block_number, named_value, print_tail}
 use Rattle.kept_items.specs.Items.{valued}
-use Rattle.printed_residue.specs.Places.{at_name, by_int, case_jump, lowered_state, taken}
+use Rattle.printed_residue.specs.Places.{by_int, case_jump, lowered_state, taken}
 use Rattle.printed_residue.proofs.Steps.{Has, past, point, step-is, operand-has}
 
 -- the value that a tail chooses by has its name

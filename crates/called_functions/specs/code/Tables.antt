@@ -1,5 +1,5 @@
 -- The words in which the table of functions states its contracts.
-use Rattle.std.specs.Prelude.{◌≡◌, ℕ, suc, Bool, if◌then◌else◌, List, [], ◌∷◌, ◌++◌, map, flat_map}
+use Rattle.std.specs.Prelude.{◌≡◌, ℕ, suc, if◌then◌else◌, List, [], ◌∷◌, ◌++◌, map, flat_map}
 use Rattle.ir_values.specs.declared.ids.FuncId.{FuncId}
 use Rattle.ir_values.specs.Calls.{same_text}
 use Rattle.called_functions.specs.declared.table.Table.{Table}

@@ -1,4 +1,3 @@
-use Rattle.std.proofs.Common.{ap, ◌∙◌}
 use Rattle.numbered_residue.proofs.Distinct.{distinct}
 use Rattle.numbered_residue.proofs.Listed.{bodies, few, parameters-not-void, types-whole}
 use Rattle.numbered_residue.proofs.Ranges.{both, ranges}

@@ -1,0 +1,4 @@
+//! Rules of admission that the module of a valid residue keeps.
+#![tactic(auto)]
+
+pub mod laws;

@@ -34,7 +34,7 @@ use Rattle.static_steps.specs.Values.{same_known}
 use Rattle.type_check.proofs.Equal.{same_width-decides}
 use Rattle.typed_runs.proofs.Integers.{KeepsWidth, binary-width, convert-width}
 use Rattle.valid_steps.specs.Items.{IsOperand}
-use Rattle.valid_steps.proofs.Operands.{by-int, varies}
+use Rattle.valid_steps.proofs.Operands.{adaptive, by-int, varies}
 use Rattle.valid_steps.proofs.Turns.{IsGood, Named, bound-good, either-good, kept-if-good, known-good}
 use Rattle.valid_steps.proofs.Works.{IsWork, bounds_of}
 
@@ -55,7 +55,7 @@ module _ (s : Setting) (entry : FuncId) (k r : ℕ) (ts : List (Option Ty)) (now
   binary-kept : (w : Width) → Named now.function x (ty.Int w) → MayVary s.t (ty.Int w) → (o : BinOp) (flags : Flags) → allows o flags ≡ true → (a c : Val) → Is (ty.Int w) a → Is (ty.Int w) c
       → IsGood s entry k r ts (kept_if s x (has_ints s.t || (is_bit w && is_bitwise o)) (item.Binary s.fresh o flags w a c))
   binary-kept w name vary o flags may a c ha hc =
-      kept-if-good s entry k r ts now stands x (ty.Int w) name fresh vary (item.Binary s.fresh o flags w a c) refl (has_ints s.t || (is_bit w && is_bitwise o)) (λ ok. (fresh, may, ok, ha, hc))
+      kept-if-good s entry k r ts now stands x (ty.Int w) name fresh vary (item.Binary s.fresh o flags w a c) refl (has_ints s.t || (is_bit w && is_bitwise o)) (λ ok. (fresh, adaptive s.t w vary, may, ok, ha, hc))
 
   pub binary-good : (w : Width) → Named now.function x (ty.Int w) → (o : BinOp) (flags : Flags) → allows o flags ≡ true → (a c : Val) → Is (ty.Int w) a → Is (ty.Int w) c
       → IsGood s entry k r ts (binary_turn s x o flags w a c)
@@ -75,7 +75,7 @@ module _ (s : Setting) (entry : FuncId) (k r : ℕ) (ts : List (Option Ty)) (now
   icmp-kept : (w : Width) → Named now.function x (ty.Int W1) → MayVary s.t (ty.Int w) → (o : Pred) (a c : Val) → Is (ty.Int w) a → Is (ty.Int w) c
       → IsGood s entry k r ts (kept_if s x (has_ints s.t || is_bit w) (item.Icmp s.fresh o w a c))
   icmp-kept w name vary o a c ha hc =
-      kept-if-good s entry k r ts now stands x (ty.Int W1) name fresh (varies s.t w W1 vary) (item.Icmp s.fresh o w a c) refl (has_ints s.t || is_bit w) (λ ok. (fresh, ok, ha, hc))
+      kept-if-good s entry k r ts now stands x (ty.Int W1) name fresh (varies s.t w W1 vary) (item.Icmp s.fresh o w a c) refl (has_ints s.t || is_bit w) (λ ok. (fresh, adaptive s.t w vary, ok, ha, hc))
 
   pub icmp-good : (w : Width) → Named now.function x (ty.Int W1) → (o : Pred) (a c : Val) → Is (ty.Int w) a → Is (ty.Int w) c → IsGood s entry k r ts (icmp_turn s x o w a c)
   icmp-good w name o a c ha hc =
@@ -110,7 +110,7 @@ module _ (s : Setting) (entry : FuncId) (k r : ℕ) (ts : List (Option Ty)) (now
   select-kept (ty.Int w) name vary d hd a c ha hc =
       subst (λ q. IsGood s entry k r ts (if q then kept_if s x (has_ints s.t || is_bit w) (item.Select s.fresh w (Dynamic d) a c) else Lost))
       (sym (and_from (is_number a) (is_number c) (number w a ha) (number w c hc)))
-      (kept-if-good s entry k r ts now stands x (ty.Int w) name fresh (varies s.t W1 w vary) (item.Select s.fresh w (Dynamic d) a c) refl (has_ints s.t || is_bit w) (λ ok. (fresh, ok, hd, ha, hc)))
+      (kept-if-good s entry k r ts now stands x (ty.Int w) name fresh (varies s.t W1 w vary) (item.Select s.fresh w (Dynamic d) a c) refl (has_ints s.t || is_bit w) (λ ok. (fresh, adaptive s.t W1 vary, ok, hd, ha, hc)))
   select-kept ty.Qubit name vary d hd a c ha hc = tt
   select-kept ty.Res name vary d hd a c ha hc = tt
   select-kept (ty.Func ws) name vary d hd a c ha hc = tt

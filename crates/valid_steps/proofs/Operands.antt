@@ -31,6 +31,7 @@ use Rattle.kept_items.specs.declared.target.Target.TheVariants.{Base, Adaptive}
 use Rattle.kept_items.specs.declared.val.Dyn.{Dyn}
 use Rattle.kept_items.specs.declared.val.Val.{Val}
 use Rattle.kept_items.specs.declared.val.Val.TheVariants.{Known, Dynamic}
+use Rattle.kept_items.specs.Targets.{is_base}
 use Rattle.static_steps.specs.Configurations.{Bounds, CanBeCalled, by_body, by_class, Each, IsValue, MayVary}
 use Rattle.static_steps.specs.Values.{Names, look, one_val, val_of, vals_of}
 use Rattle.type_check.specs.Rules.{is_known, number_below, operand_known}
@@ -50,6 +51,10 @@ pub never-varies : (t : Target) (u : Ty) → is_int u ≡ false → MayVary t u 
 never-varies Base u e h = h
 never-varies (Adaptive caps) (ty.Int w) e h = cc
 never-varies (Adaptive caps) u e h = h
+
+pub adaptive : (t : Target) (w : Width) → MayVary t (ty.Int w) → is_base t ≡ false
+adaptive Base w h = absurd h
+adaptive (Adaptive caps) w h = refl
 
 pub varies : (t : Target) (w v : Width) → MayVary t (ty.Int w) → MayVary t (ty.Int v)
 varies Base w v h = h

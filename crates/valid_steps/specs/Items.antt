@@ -102,16 +102,22 @@ module _ (m : Module) (t : Target) (b : Bounds) (ts : List (Option Ty)) where
     abbrev pub IsItem : Item → Type 0
     IsItem (item.Binary r o flags w x y) =
         IsNext r
+        × (is_base t ≡ false)
         × (allows o flags ≡ true)
         × ((has_ints t || (is_bit w && is_bitwise o)) ≡ true)
         × IsOperand (ty.Int w) x
         × IsOperand (ty.Int w) y
     IsItem (item.Icmp r o w x y) =
-        IsNext r × ((has_ints t || is_bit w) ≡ true) × IsOperand (ty.Int w) x × IsOperand (ty.Int w) y
+        IsNext r
+        × (is_base t ≡ false)
+        × ((has_ints t || is_bit w) ≡ true)
+        × IsOperand (ty.Int w) x
+        × IsOperand (ty.Int w) y
     IsItem (item.Convert r o w x to) =
         IsNext r × (converts o w to ≡ true) × (has_ints t ≡ true) × IsOperand (ty.Int w) x
     IsItem (item.Select r w c x y) =
         IsNext r
+        × (is_base t ≡ false)
         × ((has_ints t || is_bit w) ≡ true)
         × IsOperand (ty.Int W1) c
         × IsOperand (ty.Int w) x

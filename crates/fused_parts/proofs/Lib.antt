@@ -2,3 +2,4 @@ pub mod Counting
 pub mod Fusing
 pub mod Ranks
 pub mod Standing
+pub mod BottomUp

@@ -2,7 +2,9 @@
 #![tactic(auto)]
 
 mod flags;
+mod lines;
 mod numbers;
+mod widths;
 
 pub use flags::joins;
 pub use numbers::Numbers;

@@ -1,5 +1,5 @@
 -- The names of each space of the printed module are distinct.
-use Rattle.std.proofs.Common.{◌≡◌, ℕ, suc, ◌+◌, ◌^◌, ◌<◌, ◌≤◌, Bool, true, false, ◌&&◌, not, Option, Some, List, [], ◌∷◌, ◌++◌, length, map, take, refl, sym, ap, ◌∙◌, arith, append-nil}
+use Rattle.std.proofs.Common.{◌≡◌, ℕ, suc, ◌+◌, ◌^◌, ◌<◌, ◌≤◌, Bool, true, false, ◌&&◌, not, Option, List, [], ◌∷◌, ◌++◌, length, map, take, refl, sym, ap, ◌∙◌, arith, append-nil}
 use Rattle.std.proofs.lemmas.Bool.{and_parts}
 use Rattle.std.specs.Cmp.{unsigned_Decides}
 use Rattle.std.specs.Cmp.Lexicographic.{pointwise, pointwise_decides}
@@ -27,19 +27,13 @@ use Rattle.residue.specs.Valid.{Valid, all_alike, is_instruction, is_own_name, o
 use Rattle.printed_residue.proofs.Looks.{differ, other-numbers}
 use Rattle.numbered_residue.proofs.Listed.{names-few, parts-few}
 use Rattle.numbered_residue.proofs.Passing.{all-both, all-each, all-flat, all-map}
+use Rattle.numbered_residue.proofs.Shared.{both, not-false, some-same}
 
 clash : true ≡ false → ⊥
 clash e = cc
 
-both : (a b : Bool) → a ≡ true → b ≡ true → (a && b) ≡ true
-both a b h g = ap (λ x. x && b) h ∙ g
-
 neither : (a b : Bool) → a ≡ false → b ≡ false → not (a || b) ≡ true
 neither a b h g = ap (λ x. not (x || b)) h ∙ ap (λ x. not (false || x)) g
-
-not-false : (b : Bool) → not b ≡ true → b ≡ false
-not-false true h = cc
-not-false false h = refl
 
 false-not : (b : Bool) → b ≡ false → not b ≡ true
 false-not b h = ap not h
@@ -227,9 +221,6 @@ module _ (r : Residue) (t : Target) (ok : Valid r t) where
       (globals-apart globals entry-parts.0 (and_parts (is_own_name r.entry) (list_all is_own_name globals) own).1)
 
   -- ---- local names
-
-  some-same : {A : Type 0} {x y : A} → Some x ≡ Some y → x ≡ y
-  some-same e = cc
 
   decimals-apart : (m n : ℕ) → m < 2 ^ 64 → n < 2 ^ 64 → (m ≡ n → ⊥) → decimal m ≡ decimal n → ⊥
   decimals-apart m n lm ln h e = h (some-same (decimal_value-digits m (decimal m) lm refl ∙ sym (decimal_value-digits n (decimal m) ln e)))

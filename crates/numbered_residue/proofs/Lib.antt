@@ -5,3 +5,4 @@ pub mod Passing
 pub mod Ranges
 pub mod Results
 pub mod Shapes
+pub mod Shared

@@ -20,7 +20,7 @@ use Rattle.residue.specs.declared.parts.Line.TheVariants as line
 use Rattle.residue.specs.declared.parts.Part.{Part}
 use Rattle.residue.specs.declared.parts.Residue.{Residue}
 use Rattle.residue.specs.Functions.{Called, all_items, called, calls_of, calls_of_residue, declaration, declared_of, first_uses, initialize, is_among, is_constant, parameters, read_result, reading, record_name, types_of}
-use Rattle.residue.specs.Printed.{base_blocks, names_of, names_of_part, print_blocks, print_parts, printed, printed_entry}
+use Rattle.residue.specs.Printed.{base_blocks, names_of, print_blocks, print_parts, printed, printed_entry}
 use Rattle.residue.specs.Scopes.{gives_of, item_uses, items_of, jumps}
 use Rattle.residue.specs.Valid.{Valid, all_tails, begins, label_below, leads_on, number_small, parts_and_lines, val_has}
 use Rattle.residue.specs.Scopes as scope
@@ -28,6 +28,7 @@ use Rattle.printed_residue.proofs.Declared.{fits}
 use Rattle.numbered_residue.proofs.Forms.{item-uses-pass}
 use Rattle.numbered_residue.proofs.Passing.{all-both, all-each, all-flat, all-map}
 use Rattle.numbered_residue.proofs.Shapes.{all-locals-pass, type-not-void, type-whole}
+use Rattle.numbered_residue.proofs.Shared.{below, less, parameters-long, parts-long}
 
 take-none : {A : Type 0} (xs : List A) → take 0 xs ≡ []
 take-none [] = refl
@@ -57,22 +58,12 @@ types-of-parameters : (n : ℕ) (ts : List Ty) → map (λ l. l.1) (take (length
 types-of-parameters n [] = refl
 types-of-parameters n (t ∷ ts) = ap (λ l. t ∷ l) (types-of-parameters (suc n) ts)
 
-parameters-long : (n : ℕ) (ts : List Ty) → length (parameters n ts) ≡ length ts
-parameters-long n [] = refl
-parameters-long n (t ∷ ts) = ap suc (parameters-long (suc n) ts)
-
 parameters-pass : (test : Ty → Bool) (n : ℕ) (ts : List Ty) → list_all test ts ≡ true → list_all (λ l. test l.1) (parameters n ts) ≡ true
 parameters-pass test n [] h = refl
 parameters-pass test n (t ∷ ts) h = let p = and_parts (test t) (list_all test ts) h in ap (λ b. b && list_all (λ l. test l.1) (parameters (suc n) ts)) p.0 ∙ parameters-pass test (suc n) ts p.1
 
 at-most : (a b : ℕ) → a ≤ b → nat_le a b ≡ true
 at-most a b h = grind arith
-
-below : (a b : ℕ) → a < b → nat_lt a b ≡ true
-below a b h = grind arith
-
-less : (a b : ℕ) → nat_lt a b ≡ true → a < b
-less a b e = grind arith
 
 module _ (r : Residue) (t : Target) (ok : Valid r t) where
   -- a test of types that all types of values pass, and that a result passes
@@ -238,10 +229,6 @@ module _ (r : Residue) (t : Target) (ok : Valid r t) where
       let f = some-part r.parts (and_parts (begins r.parts) (all_tails (λ t. list_all (leads_on (length r.parts)) (jumps t)) r) ok.start).0 in
       omega (arith, a, b, c, d, e, f)
 
-  parts-long : (n free : ℕ) (parts : List Part) → length (print_parts r n free parts) ≡ length parts
-  parts-long n free [] = refl
-  parts-long n free (p ∷ parts) = ap suc (parts-long (suc n) (free + length (names_of_part p)) parts)
-
   blocks-few : length (print_blocks r t) < 2 ^ 32
   blocks-few = by t
     where
@@ -251,7 +238,7 @@ module _ (r : Residue) (t : Target) (ok : Valid r t) where
 
       by : (t : Target) → length (print_blocks r t) < 2 ^ 32
       by Base = let h = four r.parts in omega (arith, h)
-      by (Adaptive caps) = let a = parts-long 0 0 r.parts in let d = all-few r.parts in let e = small in omega (arith, a, d, e)
+      by (Adaptive caps) = let a = parts-long r 0 0 r.parts in let d = all-few r.parts in let e = small in omega (arith, a, d, e)
 
   pub parts-few : length r.parts < 2 ^ 32
   parts-few = let d = all-few r.parts in let e = small in omega (arith, d, e)

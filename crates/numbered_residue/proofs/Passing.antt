@@ -26,7 +26,7 @@ use Rattle.residue.specs.declared.parts.Residue.{Residue}
 use Rattle.residue.specs.Functions.{Called, all_items, declaration, declared_of}
 use Rattle.residue.specs.Instructions.{Words, block_number, instructions, local, names_of_item, print_items, print_tail}
 use Rattle.residue.specs.Phases.{in_phase, phase_of, phases_rise}
-use Rattle.residue.specs.Printed.{base_blocks, beginning, block, edges_to, entries, initialize_call, names_of, names_of_items, names_of_params, names_of_part, print_part, print_parts, print_phase, print_phis, printed, printed_entry, words}
+use Rattle.residue.specs.Printed.{base_blocks, beginning, block, edges_to, entries, initialize_call, names_of, names_of_items, names_of_params, print_part, print_parts, print_phase, print_phis, printed, printed_entry, words}
 use Rattle.residue.specs.Scopes.{items_of}
 use Rattle.residue.specs.Valid.{Valid, base_permits, base_permits_tail}
 use Rattle.printed_residue.specs.Places.{names_before}
@@ -35,6 +35,7 @@ use Rattle.printed_residue.proofs.Declared.{Among, among-piece}
 use Rattle.printed_residue.proofs.Looks.{same-numbers}
 use Rattle.printed_residue.proofs.Naming.{names-by}
 use Rattle.printed_residue.proofs.Rising.{all-none-named, filter-passes}
+use Rattle.numbered_residue.proofs.Shared.{params-long, parts-long}
 
 -- ---- tests of lists
 
@@ -97,14 +98,6 @@ module _ (ws : Words) (test : Inst → Bool) (all : Names) where
       all-both test (instructions ws (length pre) y) (print_items ws (length pre + length (names_of_item y)) ys) (h y (0, refl) pre (names_of_items ys ++ post) here)
       (ap (λ n. list_all test (print_items ws n ys)) (sym a)
       ∙ items-pass (pre ++ names_of_item y) ys post (here ∙ sym (append_assoc pre (names_of_item y) (names_of_items ys ++ post))) (λ x m before after g. h x (suc m.0, m.1) before after g))
-
-params-count : (params : List (Dyn × Width)) → length (names_of_params params) ≡ length params
-params-count [] = refl
-params-count (x ∷ params) = ap suc (params-count params)
-
-parts-long : (r : Residue) (n free : ℕ) (parts : List Part) → length (print_parts r n free parts) ≡ length parts
-parts-long r n free [] = refl
-parts-long r n free (p ∷ parts) = ap suc (parts-long r (suc n) (free + length (names_of_part p)) parts)
 
 get-within : {A : Type 0} (xs : List A) (i : ℕ) → i < length xs → (x : A) × (slice_get xs i ≡ Some x)
 get-within [] i lt = absurd (omega arith)
@@ -177,7 +170,7 @@ module _ (r : Residue) (test : Step → Bool) where
           let pre : Names = names_of (take n r.parts) ++ (names_of_params p.params ++ []) in
           let a = length-append (names_of (take n r.parts)) (names_of_params p.params ++ []) in
           let b = length-append (names_of_params p.params) [] in
-          let d = params-count p.params in
+          let d = params-long p.params in
           let z : names_before r n + length p.params ≡ length pre = omega (arith, a, b, d) in
           ap (λ m. list_all (λ i. test (InstAt i)) (print_items (words r) m (items_of p.lines))) z
           ∙ items-pass (words r) (λ i. test (InstAt i)) (names_of r.parts) pre (items_of p.lines) c.0 c.1 (λ x a before after e. h.item x (among-piece (λ p. items_of p.lines) r.parts n p x s a) before after e)

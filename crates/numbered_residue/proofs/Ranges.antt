@@ -40,7 +40,7 @@ use Rattle.residue.specs.declared.parts.Tail.{Tail}
 use Rattle.residue.specs.declared.parts.Tail.TheVariants as tail
 use Rattle.residue.specs.Functions.{all_items, initialize, is_constant, read_name, record_name}
 use Rattle.residue.specs.Instructions.{Words, block_number, instructions, local, names_of_item, named_value, operand_of, print_tail, read_into, reads, side_operand, typed_operand}
-use Rattle.residue.specs.Printed.{argument, base_blocks, edges_to, entries, initialize_call, locals_from, name_in, names_of, names_of_part, print_blocks, print_parts, printed, printed_entry, words}
+use Rattle.residue.specs.Printed.{argument, base_blocks, edges_to, entries, initialize_call, name_in, names_of, print_blocks, printed, printed_entry, words}
 use Rattle.residue.specs.Scopes.{gives_of, item_uses, jump_args, jumps, part_gives, tail_uses, uses_of, width_in}
 use Rattle.residue.specs.Scopes as scope
 use Rattle.residue.specs.Valid.{Valid, all_agree, all_tails, args_fit, base_permits, base_permits_tail, begins, fits_part, is_of_width, is_within, label_below, leads_on, target_permits, val_has}
@@ -57,23 +57,7 @@ use Rattle.printed_residue.proofs.Scoped.{in-append, in-front, in-is}
 use Rattle.numbered_residue.proofs.Forms.{args-of-written, entries-pass, equal-passes, first-passes, index-passes, item-uses-pass, jump-args-pass, second-passes, tail-uses-pass, third-passes, uses-of-written}
 use Rattle.numbered_residue.proofs.Listed.{parameters-local}
 use Rattle.numbered_residue.proofs.Passing.{all-both, all-map, all-steps, entry-passes}
-
-below : (a b : ℕ) → a < b → nat_lt a b ≡ true
-below a b h = grind arith
-
-less : (a b : ℕ) → nat_lt a b ≡ true → a < b
-less a b e = grind arith
-
-pub both : (a b : Bool) → a ≡ true → b ≡ true → (a && b) ≡ true
-both a b h g = ap (λ x. x && b) h ∙ g
-
-locals-long : (n : ℕ) (names : List (Option ℕ × Ty)) → length (locals_from n names) ≡ length names
-locals-long n [] = refl
-locals-long n (x ∷ names) = ap suc (locals-long (suc n) names)
-
-parts-long : (r : Residue) (n free : ℕ) (parts : List Part) → length (print_parts r n free parts) ≡ length parts
-parts-long r n free [] = refl
-parts-long r n free (p ∷ parts) = ap suc (parts-long r (suc n) (free + length (names_of_part p)) parts)
+use Rattle.numbered_residue.proofs.Shared.{below, both, less, locals-long, parts-long, three, two}
 
 module _ (r : Residue) (t : Target) (ok : Valid r t) where
   abbrev l : Module
@@ -186,12 +170,6 @@ module _ (r : Residue) (t : Target) (ok : Valid r t) where
 
   function-below : (g : FuncId) (name : List ℕ) (c : Class) → Declares l g name c → nat_lt g.0 (length l.funcs) ≡ true
   function-below g name c d = below g.0 (length l.funcs) (slice_get_within l.funcs g.0 d.function d.is)
-
-  two : (a b : Bool) → a ≡ true → b ≡ true → (a && (b && true)) ≡ true
-  two a b h g = both a (b && true) h (ap (λ s. s && true) g)
-
-  three : (a b c : Bool) → a ≡ true → b ≡ true → c ≡ true → (a && (b && (c && true))) ≡ true
-  three a b c h g i = both a (b && (c && true)) h (two b c g i)
 
   read-ranged : (m : ℕ) (v : Value) → Declares l (ws.function read_name) read_name class.Read → good (ty.Res, Known v) ≡ true → m < length (names_of r.parts) → in_range (InstAt (read_into ws m v)) ≡ true
   read-ranged m v d g lt = step-ranged (operand.Const (value.Func (ws.function read_name)) ∷ operand.Const (named_value ws v) ∷ []) m (two (nat_lt (ws.function read_name).0 (length l.funcs)) (operand_in_range l f (operand_of ws (Known v))) (function-below (ws.function read_name) read_name class.Read d) (ranged ty.Res (Known v) g)) lt

@@ -32,12 +32,13 @@ use Rattle.residue.specs.declared.parts.Residue.{Residue}
 use Rattle.residue.specs.Functions.{all_items, declaration, declared_of, is_constant, parameters}
 use Rattle.residue.specs.Instructions.{Words, equal_test, instructions, local, names_of_item, names_of_reading, print_items, read_into, reads, side_reads}
 use Rattle.residue.specs.Phases.{phases_rise}
-use Rattle.residue.specs.Printed.{beginning, edges_to, initialize_call, locals_from, names_of, names_of_items, names_of_params, names_of_part, print_part, print_parts, print_phis, printed, printed_entry, words}
+use Rattle.residue.specs.Printed.{beginning, edges_to, initialize_call, names_of, names_of_items, names_of_params, names_of_part, print_part, print_parts, print_phis, printed, printed_entry, words}
 use Rattle.residue.specs.Scopes.{items_of, jumps}
 use Rattle.residue.specs.Valid.{Valid, all_tails, base_permits, base_permits_tail, begins, leads_on}
 use Rattle.printed_residue.proofs.Looks.{differ, other-numbers, same-numbers}
 use Rattle.printed_residue.proofs.Rising.{all-none-named}
 use Rattle.numbered_residue.proofs.Passing.{all-each, all-map}
+use Rattle.numbered_residue.proofs.Shared.{locals-long, parameters-long, params-long}
 
 -- so many local names in a row
 abbrev pub row : ℕ → ℕ → List LocalId
@@ -114,10 +115,6 @@ items-define ws n (x ∷ xs) =
     ∙ row-append n (length (names_of_item x)) (length (names_of_items xs)) (n + length (names_of_item x)) refl
     ∙ ap (row n) (sym a)
 
-params-long : (params : List (Dyn × Width)) → length (names_of_params params) ≡ length params
-params-long [] = refl
-params-long (x ∷ params) = ap suc (params-long params)
-
 part-defines : (r : Residue) (n free : ℕ) (p : Part) → flat_map step_defines (steps_of_block (print_part r n free p)) ≡ row free (length (names_of_part p))
 part-defines r n free p =
     let a = length-append (names_of_params p.params) (names_of_items (items_of p.lines)) in
@@ -190,14 +187,6 @@ once-declared f n (suc more) e h =
   where
     below : (a b : ℕ) → a < b → nat_lt a b ≡ true
     below a b h = grind arith
-
-parameters-long : (n : ℕ) (ts : List Ty) → length (parameters n ts) ≡ length ts
-parameters-long n [] = refl
-parameters-long n (t ∷ ts) = ap suc (parameters-long (suc n) ts)
-
-locals-long : (n : ℕ) (names : List (Option ℕ × Ty)) → length (locals_from n names) ≡ length names
-locals-long n [] = refl
-locals-long n (x ∷ names) = ap suc (locals-long (suc n) names)
 
 module _ (r : Residue) (t : Target) (ok : Valid r t) where
   -- ---- Base defines no names

@@ -36,6 +36,7 @@ use Rattle.printed_residue.proofs.Declared.{fits}
 use Rattle.printed_residue.proofs.Facts.{passes-here}
 use Rattle.numbered_residue.proofs.Forms.{entries-pass, equal-passes, index-passes, item-uses-pass, jump-args-pass}
 use Rattle.numbered_residue.proofs.Passing.{all-both, all-map, all-steps, entry-passes}
+use Rattle.numbered_residue.proofs.Shared.{three, two}
 
 -- what one side of a comparison is read into
 abbrev side_names : Bool → List (Option ℕ × Ty)
@@ -152,12 +153,6 @@ module _ (r : Residue) (t : Target) (ok : Valid r t) where
   args-written (a ∷ args) h =
       let p = and_parts (plain a) (list_all plain args) h in
       ap (λ b. b && list_all is_written (map (λ a. a.1) (map (typed_operand ws) args))) (of-plain a.1 p.0) ∙ args-written args p.1
-
-  two : (a b : Bool) → a ≡ true → b ≡ true → (a && (b && true)) ≡ true
-  two a b h g = ap (λ x. x && (b && true)) h ∙ ap (λ x. x && true) g
-
-  three : (a b c : Bool) → a ≡ true → b ≡ true → c ≡ true → (a && (b && (c && true))) ≡ true
-  three a b c h g i = ap (λ x. x && (b && (c && true))) h ∙ two b c g i
 
   side-written : (n : ℕ) (v : Value) → is_written (side_operand n v) ≡ true
   side-written n value.One = refl

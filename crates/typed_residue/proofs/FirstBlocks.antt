@@ -1,9 +1,9 @@
 -- No edge of the printed module leads to the first block, and it has no phis.
-use Rattle.std.proofs.Common.{◌≡◌, ℕ, zero, suc, ◌+◌, ◌<◌, ◌≤◌, Bool, true, false, ◌&&◌, not, Option, None, Some, List, [], ◌∷◌, ◌++◌, length, map, refl, sym, ap, ◌∙◌, subst, arith}
+use Rattle.std.proofs.Common.{◌≡◌, ℕ, zero, suc, ◌+◌, Bool, true, false, ◌&&◌, not, Option, None, Some, List, [], ◌∷◌, length, map, refl, sym, ap, ◌∙◌, subst, arith}
 use Rattle.std.proofs.lemmas.Bool.{and_parts}
 use Rattle.std.proofs.lemmas.Option.{slice_get_within}
 use Rattle.std.specs.List.{list_all}
-use Rattle.std.specs.Prelude.{◌==◌, if◌then◌else◌, flat_map, nat_lt, slice_get}
+use Rattle.std.specs.Prelude.{◌==◌, nat_lt, slice_get}
 use Rattle.ir_module.specs.declared.places.Point.{Point}
 use Rattle.ir_module.specs.declared.places.Spot.{Spot}
 use Rattle.ir_module.specs.declared.places.Spot.TheVariants as spot
@@ -14,12 +14,11 @@ use Rattle.ir_module.specs.declared.tree.Module.{Module}
 use Rattle.ir_module.specs.declared.tree.Phi.{Phi}
 use Rattle.ir_module.specs.declared.tree.Term.{Term}
 use Rattle.ir_module.specs.Edges.{edges}
-use Rattle.ir_module.specs.Steps.{Step, PhiAt, InstAt, TermAt, NoStep, step_in, step_of_point, steps_of_block}
+use Rattle.ir_module.specs.Steps.{PhiAt, InstAt, TermAt, NoStep, step_in, step_of_point, steps_of_block}
 use Rattle.ir_module.proofs.StepLemmas.{step-passes}
 use Rattle.ir_values.specs.declared.ids.BlockId.{BlockId}
 use Rattle.ir_values.specs.declared.int.Width.{Width}
 use Rattle.ir_values.specs.Int.{IntValue}
-use Rattle.kept_items.specs.declared.target.Caps.{Caps}
 use Rattle.kept_items.specs.declared.target.Target.{Target}
 use Rattle.kept_items.specs.declared.target.Target.TheVariants.{Base, Adaptive}
 use Rattle.kept_items.specs.declared.val.Dyn.{Dyn}
@@ -30,11 +29,11 @@ use Rattle.residue.specs.declared.parts.Tail.{Tail}
 use Rattle.residue.specs.declared.parts.Tail.TheVariants as tail
 use Rattle.residue.specs.Functions.{Called, all_items, declaration, declared_of}
 use Rattle.residue.specs.Instructions.{Words, block_number, print_tail}
-use Rattle.residue.specs.Printed.{base_blocks, edges_to, names_of_part, print_blocks, print_part, print_parts, print_phis, printed, printed_entry, words}
+use Rattle.residue.specs.Printed.{base_blocks, edges_to, print_blocks, print_part, print_parts, print_phis, printed, printed_entry, words}
 use Rattle.residue.specs.Scopes.{jumps}
 use Rattle.residue.specs.Valid.{Valid, all_tails, base_permits, base_permits_tail, begins, leads_on, target_permits}
 use Rattle.type_check.specs.declared.code.TypeCode.TheVariants as code
-use Rattle.type_check.specs.Faults.{at_step, keeps_rule, on_function}
+use Rattle.type_check.specs.Faults.{keeps_rule, on_function}
 use Rattle.type_check.specs.Rules.{is_first, keeps_first}
 use Rattle.printed_residue.specs.Places.{names_before}
 use Rattle.printed_residue.proofs.Blocks.{part-stands}
@@ -42,14 +41,7 @@ use Rattle.printed_residue.proofs.Ends.{get-within}
 use Rattle.printed_residue.proofs.Facts.{passes-here}
 use Rattle.printed_residue.proofs.Looks.{differ, same-numbers}
 use Rattle.numbered_residue.proofs.Passing.{all-both, block-passes}
-use Rattle.typed_residue.proofs.Types.{both}
-
-every : {A : Type 0} (test : A → Bool) (xs : List A) → ((x : A) → test x ≡ true) → list_all test xs ≡ true
-every test [] h = refl
-every test (x ∷ xs) h = both (test x) (list_all test xs) (h x) (every test xs h)
-
-less : (a b : ℕ) → nat_lt a b ≡ true → a < b
-less a b e = grind arith
+use Rattle.numbered_residue.proofs.Shared.{both, every, less, parts-long, some-same}
 
 inst-first : (b : BlockId) (i : Inst) → keeps_first b (InstAt i) ≡ true
 unfolding keeps_first
@@ -137,17 +129,10 @@ module _ (r : Residue) (t : Target) (ok : Valid r t) where
       (every (λ i. keeps_first (block_number n) (InstAt i)) (print_part r n (names_before r n) p).insts (λ i. inst-first (block_number n) i))
       (term-first (block_number n) (print_tail ws p.tail) (part-later n p s))
 
-  parts-long : (n free : ℕ) (parts : List Part) → length (print_parts r n free parts) ≡ length parts
-  parts-long n free [] = refl
-  parts-long n free (p ∷ parts) = ap suc (parts-long (suc n) (free + length (names_of_part p)) parts)
-
-  some-same : {A : Type 0} {x y : A} → Some x ≡ Some y → x ≡ y
-  some-same e = cc
-
   adaptive-first : (n : ℕ) (b : Block) → slice_get (print_parts r 0 0 r.parts) n ≡ Some b → list_all (keeps_first (block_number n)) (steps_of_block b) ≡ true
   adaptive-first n b s =
       let lt = slice_get_within (print_parts r 0 0 r.parts) n b s in
-      let long = parts-long 0 0 r.parts in
+      let long = parts-long r 0 0 r.parts in
       let g = get-within r.parts n (omega (arith, lt, long)) in
       let e = part-stands r 0 0 r.parts n g.0 g.1 in
       let z : 0 + n ≡ n = omega arith in

@@ -1,45 +1,40 @@
 -- The required numbers of the printed module, and the numbers below them.
-use Rattle.std.proofs.Common.{◌≡◌, ℕ, zero, suc, ◌+◌, ◌/◌, ◌%◌, ◌^◌, ◌<◌, ◌≤◌, Bool, true, false, ◌&&◌, not, Option, None, Some, List, [], ◌∷◌, ◌++◌, length, map, get_or, refl, sym, ap, ◌∙◌, subst, arith}
+use Rattle.std.proofs.Common.{◌≡◌, ℕ, zero, suc, ◌+◌, ◌%◌, ◌^◌, ◌<◌, ◌≤◌, Bool, true, false, ◌&&◌, not, None, Some, List, [], ◌∷◌, length, map, get_or, refl, sym, ap, ◌∙◌, arith}
 use Rattle.std.proofs.lemmas.Bool.{and_parts}
 use Rattle.std.proofs.lemmas.Fmt.{decimal_by_steps, decimal_digit, decimal_is_IsNumeral, decimal_nonempty, first_decimal}
 use Rattle.std.proofs.lemmas.List.Folds.{list_all-append}
 use Rattle.std.specs.Char.{is_ascii_digit}
 use Rattle.std.specs.List.{list_all}
-use Rattle.std.specs.Prelude.{◌||◌, ◌==◌, if◌then◌else◌, decimal, is_some, min, nat_le, nat_lt, option_and_then, slice_get, unwrap_or}
-use Rattle.std.specs.Str.Parse.{digits_value}
+use Rattle.std.specs.Prelude.{◌||◌, ◌==◌, if◌then◌else◌, decimal, is_some, min, nat_le, slice_get, unwrap_or}
 use Rattle.ir_module.specs.declared.places.Point.{Point}
 use Rattle.ir_module.specs.declared.places.Spot.{Spot}
 use Rattle.ir_module.specs.declared.places.Spot.TheVariants as spot
 use Rattle.ir_module.specs.declared.tree.Function.{Function}
 use Rattle.ir_module.specs.declared.tree.Module.{Module}
 use Rattle.ir_module.specs.declared.tree.Operand.{Operand}
-use Rattle.ir_module.specs.declared.tree.Operand.TheVariants as operand
-use Rattle.ir_module.specs.Entry.{Entry, entry_of}
+use Rattle.ir_module.specs.Entry.{entry_of}
 use Rattle.ir_module.specs.Numbered.{all_steps}
-use Rattle.ir_module.specs.Steps.{Step, PhiAt, InstAt, TermAt, NoStep}
+use Rattle.ir_module.specs.Steps.{Step, PhiAt, InstAt, TermAt}
 use Rattle.ir_values.specs.declared.ids.BlockId.{BlockId}
 use Rattle.ir_values.specs.declared.int.Width.{Width}
-use Rattle.ir_values.specs.declared.int.Width.TheVariants.{W1, W64}
 use Rattle.ir_values.specs.declared.ty.Ty.{Ty}
 use Rattle.ir_values.specs.declared.ty.Ty.TheVariants as ty
 use Rattle.ir_values.specs.declared.value.Value.{Value}
 use Rattle.ir_values.specs.declared.value.Value.TheVariants as value
-use Rattle.ir_values.specs.Int.{IntValue}
 use Rattle.kept_items.specs.declared.item.Item.{Item}
 use Rattle.kept_items.specs.declared.item.Item.TheVariants as item
 use Rattle.kept_items.specs.declared.target.Target.{Target}
 use Rattle.kept_items.specs.declared.val.Dyn.{Dyn}
 use Rattle.kept_items.specs.declared.val.Val.{Val}
-use Rattle.kept_items.specs.declared.val.Val.TheVariants.{Known, Dynamic}
-use Rattle.residue.specs.declared.parts.Jump.{Jump}
+use Rattle.kept_items.specs.declared.val.Val.TheVariants.{Known}
 use Rattle.residue.specs.declared.parts.Part.{Part}
 use Rattle.residue.specs.declared.parts.Residue.{Residue}
 use Rattle.residue.specs.declared.parts.Tail.{Tail}
 use Rattle.residue.specs.declared.parts.Tail.TheVariants as tail
-use Rattle.residue.specs.Functions.{Called, all_items, declaration}
-use Rattle.residue.specs.Instructions.{Words, equal_test, instructions, local, names_of_item, operand_of, print_tail, read_into, reads, typed_operand}
+use Rattle.residue.specs.Functions.{Called, declaration}
+use Rattle.residue.specs.Instructions.{Words, instructions, local, operand_of, print_tail, read_into, reads, typed_operand}
 use Rattle.residue.specs.Printed.{edges_to, entries, printed, printed_entry, words}
-use Rattle.residue.specs.Scopes.{gives_of, item_uses, tail_uses, uses_of}
+use Rattle.residue.specs.Scopes.{gives_of, item_uses, uses_of}
 use Rattle.residue.specs.Valid.{Valid, handle_below, val_has}
 use Rattle.type_check.specs.declared.code.TypeCode.TheVariants as code
 use Rattle.type_check.specs.Faults.{at_function, at_step, keeps_rule, where_entry}
@@ -47,15 +42,15 @@ use Rattle.type_check.specs.Required.{is_plain, numbers_are_plain, one_above, pl
 use Rattle.type_check.specs.Rules.{number_below, numbers_below}
 use Rattle.type_check.specs.Typing.{phi_wants, wants}
 use Rattle.printed_residue.specs.Places.{names_before}
-use Rattle.printed_residue.proofs.Declared.{Among}
 use Rattle.printed_residue.proofs.Ends.{entry-is}
 use Rattle.printed_residue.proofs.Looks.{differ}
-use Rattle.numbered_residue.proofs.Forms.{equal-passes, first-passes, item-uses-pass, second-passes, tail-uses-pass, third-passes}
-use Rattle.numbered_residue.proofs.Passing.{Passes, all-both, all-map, all-steps, entry-passes}
+use Rattle.numbered_residue.proofs.Forms.{equal-passes, first-passes, item-uses-pass, second-passes}
+use Rattle.numbered_residue.proofs.Passing.{all-map, all-steps, entry-passes}
 use Rattle.typed_residue.specs.Laws.{FitsLimit}
 use Rattle.typed_residue.proofs.Edges.{entries-there-pass}
 use Rattle.typed_residue.proofs.Rules.{at-spot, functions-pass}
-use Rattle.typed_residue.proofs.Types.{both, param-type, three, two}
+use Rattle.typed_residue.proofs.Types.{param-type}
+use Rattle.numbered_residue.proofs.Shared.{below, both, less}
 
 -- ---- what `decimal` writes is plain
 
@@ -86,12 +81,6 @@ stated-number limit n lt le =
     ap (λ k. if is_plain (decimal n) && nat_le k limit then Some k else None) v
     ∙ ap (λ b. if b && nat_le n limit then Some n else None) (plain n lt)
     ∙ ap (λ b. if true && b then Some n else None) (at-most n limit le)
-
-less : (a b : ℕ) → nat_lt a b ≡ true → a < b
-less a b e = grind arith
-
-below : (a b : ℕ) → a < b → nat_lt a b ≡ true
-below a b h = grind arith
 
 module _ (r : Residue) (t : Target) (ok : Valid r t) (limit : ℕ) (fits : FitsLimit r limit) where
   abbrev m : Module

@@ -1,12 +1,12 @@
 -- Each phi of the printed module has an entry for each edge into its block, and entries for one block don't differ.
-use Rattle.std.proofs.Common.{◌≡◌, ℕ, zero, suc, ◌+◌, ◌<◌, ◌≤◌, Bool, true, false, ◌&&◌, not, Option, None, Some, List, [], ◌∷◌, ◌++◌, length, map, refl, sym, ap, ◌∙◌, subst, arith, append-nil}
+use Rattle.std.proofs.Common.{◌≡◌, ℕ, zero, suc, ◌+◌, ◌<◌, Bool, true, false, not, Option, None, Some, List, [], ◌∷◌, ◌++◌, length, map, refl, sym, ap, ◌∙◌, subst, arith, append-nil}
 use Rattle.std.proofs.lemmas.Bool.{and_parts}
 use Rattle.std.proofs.lemmas.List.{map-append}
 use Rattle.std.proofs.lemmas.Option.{slice_get_within}
 use Rattle.std.specs.Cmp.{unsigned_Decides}
 use Rattle.std.specs.Cmp.Lexicographic.{pointwise_decides}
 use Rattle.std.specs.List.{list_all}
-use Rattle.std.specs.Prelude.{◌||◌, ◌==◌, ⊤, if◌then◌else◌, filter, flat_map, slice_get}
+use Rattle.std.specs.Prelude.{◌||◌, ◌==◌, ⊤, if◌then◌else◌, filter, slice_get}
 use Rattle.ir_module.specs.declared.places.Point.{Point}
 use Rattle.ir_module.specs.declared.places.Spot.{Spot}
 use Rattle.ir_module.specs.declared.places.Spot.TheVariants as spot
@@ -20,11 +20,10 @@ use Rattle.ir_module.specs.declared.tree.Phi.{Phi}
 use Rattle.ir_module.specs.declared.tree.Term.{Term}
 use Rattle.ir_module.specs.Edges.{edges}
 use Rattle.ir_module.specs.Tree.{blocks_of}
-use Rattle.ir_module.specs.Steps.{Step, PhiAt, InstAt, TermAt, NoStep, step_in, step_of_point, steps_of_block}
+use Rattle.ir_module.specs.Steps.{PhiAt, InstAt, TermAt, NoStep, step_in, step_of_point, steps_of_block}
 use Rattle.ir_module.proofs.StepLemmas.{step-passes}
 use Rattle.ir_values.specs.declared.ids.BlockId.{BlockId}
 use Rattle.ir_values.specs.declared.int.Width.{Width}
-use Rattle.ir_values.specs.declared.int.Width.TheVariants.{W1, W8, W16, W32, W64}
 use Rattle.ir_values.specs.declared.value.Value.{Value}
 use Rattle.ir_values.specs.declared.value.Value.TheVariants as value
 use Rattle.ir_values.specs.Int.{IntValue}
@@ -45,21 +44,16 @@ use Rattle.residue.specs.Scopes.{jumps}
 use Rattle.residue.specs.Valid.{Valid, agrees_with, all_agree, all_tails, fits_part, same_vals}
 use Rattle.residue.specs.Scopes as scopes
 use Rattle.type_check.specs.declared.code.TypeCode.TheVariants as code
-use Rattle.type_check.specs.Faults.{at_step, keeps_rule, on_function}
+use Rattle.type_check.specs.Faults.{keeps_rule, on_function}
 use Rattle.type_check.specs.Rules.{entries_agree, entries_fit, entries_match, entry_blocks, same_operand, sources, times}
 use Rattle.printed_residue.specs.Places.{names_before}
 use Rattle.printed_residue.proofs.Blocks.{part-stands}
 use Rattle.printed_residue.proofs.Edges.{same-vals}
 use Rattle.printed_residue.proofs.Ends.{get-within}
-use Rattle.printed_residue.proofs.Facts.{passes-here}
 use Rattle.printed_residue.proofs.Looks.{same-itself, same-numbers}
 use Rattle.printed_residue.proofs.Rising.{filter-append}
 use Rattle.numbered_residue.proofs.Passing.{block-passes}
-use Rattle.typed_residue.proofs.Types.{both}
-
-every : {A : Type 0} (test : A → Bool) (xs : List A) → ((x : A) → test x ≡ true) → list_all test xs ≡ true
-every test [] h = refl
-every test (x ∷ xs) h = both (test x) (list_all test xs) (h x) (every test xs h)
+use Rattle.numbered_residue.proofs.Shared.{both, every, parts-long, some-same, width-itself}
 
 abbrev Edge : Type 0
 Edge = ℕ × Jump
@@ -129,13 +123,6 @@ match-self : (from : List ℕ) (es : List (Operand × BlockId)) → from ≡ ent
 match-self from es h = every (λ q. times q from == times q (entry_blocks es)) (from ++ entry_blocks es) (λ q. ap (λ l. times q l == times q (entry_blocks es)) h ∙ same-itself (times q (entry_blocks es)))
 
 -- ---- entries for one block don't differ
-
-width-itself : (w : Width) → same_width w w ≡ true
-width-itself W1 = refl
-width-itself W8 = refl
-width-itself W16 = refl
-width-itself W32 = refl
-width-itself W64 = refl
 
 value-itself : (v : Value) → same_value v v ≡ true
 value-itself (value.Int i) = both (same_width i.width i.width) (i.bits == i.bits) (width-itself i.width) (same-itself i.bits)
@@ -279,9 +266,6 @@ fit-phi : (f : Function) (b : BlockId) (x : Phi) → entries_match (sources b.0 
 unfolding entries_fit
 fit-phi f b x h g = both (entries_match (sources b.0 0 (blocks_of f)) x.entries) (entries_agree x.entries) h g
 
-some-same : {A : Type 0} {x y : A} → Some x ≡ Some y → x ≡ y
-some-same e = cc
-
 module _ (r : Residue) (t : Target) (ok : Valid r t) where
   abbrev m : Module
   m = printed r t
@@ -291,10 +275,6 @@ module _ (r : Residue) (t : Target) (ok : Valid r t) where
 
   abbrev ws : Words
   ws = words r
-
-  parts-long : (n free : ℕ) (parts : List Part) → length (print_parts r n free parts) ≡ length parts
-  parts-long n free [] = refl
-  parts-long n free (p ∷ parts) = ap suc (parts-long (suc n) (free + length (names_of_part p)) parts)
 
   agree : list_all (λ p. all_agree (jumps p.tail)) r.parts ≡ true
   agree = (and_parts (all_tails (λ t. list_all (λ j. fits_part (scopes.gives_of r) (slice_get r.parts j.to) j.args) (jumps t)) r) (all_tails (λ t. all_agree (jumps t)) r) ok.jumps).1
@@ -314,7 +294,7 @@ module _ (r : Residue) (t : Target) (ok : Valid r t) where
   adaptive-fit : (caps : Caps) → t ≡ Adaptive caps → (n : ℕ) (b : Block) → slice_get (print_parts r 0 0 r.parts) n ≡ Some b → list_all (entries_fit f (block_number n)) (steps_of_block b) ≡ true
   adaptive-fit caps z n b s =
       let lt = slice_get_within (print_parts r 0 0 r.parts) n b s in
-      let long = parts-long 0 0 r.parts in
+      let long = parts-long r 0 0 r.parts in
       let g = get-within r.parts n (omega (arith, lt, long)) in
       let e = part-stands r 0 0 r.parts n g.0 g.1 in
       let same : b ≡ print_part r (0 + n) (0 + names_before r n) g.0 = some-same (sym s ∙ e) in

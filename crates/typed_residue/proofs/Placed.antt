@@ -1,5 +1,5 @@
 -- The types of local names by their places, and of the names that have Dynamic values.
-use Rattle.std.proofs.Common.{◌≡◌, ℕ, zero, suc, ◌+◌, ◌<◌, ◌≤◌, Bool, true, false, ◌&&◌, Option, None, Some, List, [], ◌∷◌, ◌++◌, length, map, refl, sym, ap, ◌∙◌, subst, arith, append_assoc, length-append, option_map}
+use Rattle.std.proofs.Common.{◌≡◌, ℕ, zero, suc, ◌+◌, ◌<◌, Bool, true, false, Option, None, Some, List, [], ◌∷◌, ◌++◌, length, map, refl, sym, ap, ◌∙◌, arith, append_assoc, length-append, option_map}
 use Rattle.std.specs.Prelude.{◌==◌, ⊤, if◌then◌else◌, flat_map, slice_get}
 use Rattle.ir_values.specs.declared.int.Width.{Width}
 use Rattle.ir_values.specs.declared.int.Width.TheVariants.{W1}
@@ -12,7 +12,7 @@ use Rattle.kept_items.specs.declared.item.Item.TheVariants as item
 use Rattle.kept_items.specs.declared.val.Dyn.{Dyn}
 use Rattle.residue.specs.declared.parts.Part.{Part}
 use Rattle.residue.specs.Functions.{is_constant}
-use Rattle.residue.specs.Instructions.{names_of_item, names_of_reading, reads}
+use Rattle.residue.specs.Instructions.{names_of_item, names_of_reading}
 use Rattle.residue.specs.Printed.{is_of, locals_from, name_in, names_of, names_of_items, names_of_params, names_of_part}
 use Rattle.residue.specs.Scopes.{item_gives, items_of, param_gives, part_gives, width_in}
 

@@ -1,13 +1,11 @@
 -- The rules of admission at every spot of the printed module.
-use Rattle.std.proofs.Common.{◌≡◌, ℕ, zero, suc, ◌+◌, ◌<◌, ◌≤◌, Bool, true, false, ◌&&◌, not, Option, None, Some, List, [], ◌∷◌, ◌++◌, length, map, refl, sym, ap, ◌∙◌, subst, arith}
+use Rattle.std.proofs.Common.{◌≡◌, ℕ, zero, suc, ◌+◌, Bool, true, false, ◌&&◌, not, Option, None, Some, List, [], ◌∷◌, length, map, refl, sym, ap, ◌∙◌, arith}
 use Rattle.std.proofs.lemmas.Bool.{and_parts}
-use Rattle.std.proofs.lemmas.Option.{slice_get_within}
-use Rattle.std.specs.List.{list_all, list_any, starts_with}
-use Rattle.std.specs.Prelude.{◌||◌, ◌==◌, ⊤, if◌then◌else◌, flat_map, is_some, nat_eq, nat_lt, slice_get}
+use Rattle.std.specs.List.{list_all, list_any}
+use Rattle.std.specs.Prelude.{◌||◌, ◌==◌, is_some, slice_get}
 use Rattle.ir_module.specs.declared.places.Point.{Point}
 use Rattle.ir_module.specs.declared.places.Spot.{Spot}
 use Rattle.ir_module.specs.declared.places.Spot.TheVariants as spot
-use Rattle.ir_module.specs.declared.tree.Block.{Block}
 use Rattle.ir_module.specs.declared.tree.Function.{Function}
 use Rattle.ir_module.specs.declared.tree.Inst.{Inst}
 use Rattle.ir_module.specs.declared.tree.Module.{Module}
@@ -15,14 +13,12 @@ use Rattle.ir_module.specs.declared.tree.Operand.{Operand}
 use Rattle.ir_module.specs.declared.tree.Operand.TheVariants as operand
 use Rattle.ir_module.specs.declared.tree.Phi.{Phi}
 use Rattle.ir_module.specs.declared.tree.Term.TheVariants as term
-use Rattle.ir_module.specs.Classes.{class_of_function}
-use Rattle.ir_module.specs.Edges.{edges}
-use Rattle.ir_module.specs.Entry.{Entry, entry_of, has_attribute, is_entry}
+use Rattle.ir_module.specs.Entry.{entry_of}
 use Rattle.ir_module.specs.Numbered.{all_steps}
 use Rattle.ir_module.specs.Numbered as numbered
 use Rattle.ir_module.specs.declared.tree.Constant.{Constant}
-use Rattle.ir_module.specs.Steps.{Step, PhiAt, InstAt, TermAt, NoStep, step_in, step_of_point, steps_of_block}
-use Rattle.ir_module.proofs.StepLemmas.{module-passes, step-passes}
+use Rattle.ir_module.specs.Steps.{Step, PhiAt, InstAt, TermAt, NoStep, step_of_point}
+use Rattle.ir_module.proofs.StepLemmas.{module-passes}
 use Rattle.ir_values.specs.declared.class.Class.{Class}
 use Rattle.ir_values.specs.declared.class.Class.TheVariants as class
 use Rattle.ir_values.specs.declared.ids.BlockId.{BlockId}
@@ -34,13 +30,10 @@ use Rattle.ir_values.specs.declared.ty.Ty.TheVariants as ty
 use Rattle.ir_values.specs.declared.value.Value.{Value}
 use Rattle.ir_values.specs.declared.value.Value.TheVariants as value
 use Rattle.ir_values.specs.Int.{IntValue}
-use Rattle.ir_values.specs.Names.{name_text, quantum_prefix}
 use Rattle.ir_values.specs.Values.{same_int}
 use Rattle.kept_items.specs.declared.item.Item.{Item}
 use Rattle.kept_items.specs.declared.item.Item.TheVariants as item
-use Rattle.kept_items.specs.declared.target.Caps.{Caps}
 use Rattle.kept_items.specs.declared.target.Target.{Target}
-use Rattle.kept_items.specs.declared.target.Target.TheVariants.{Base, Adaptive}
 use Rattle.kept_items.specs.declared.val.Dyn.{Dyn}
 use Rattle.kept_items.specs.declared.val.Val.{Val}
 use Rattle.kept_items.specs.declared.val.Val.TheVariants.{Known, Dynamic}
@@ -49,33 +42,30 @@ use Rattle.residue.specs.declared.parts.Part.{Part}
 use Rattle.residue.specs.declared.parts.Residue.{Residue}
 use Rattle.residue.specs.declared.parts.Tail.{Tail}
 use Rattle.residue.specs.declared.parts.Tail.TheVariants as tail
-use Rattle.residue.specs.Functions.{Called, all_items, declaration, declared_of, initialize, is_constant, read_name, record_name}
-use Rattle.residue.specs.Instructions.{Words, block_number, equal_test, instructions, local, names_of_item, operand_of, print_tail, read_into, reads, side_operand, typed_operand}
-use Rattle.residue.specs.Printed.{argument, edges_to, entries, initialize_call, names_of, print_blocks, printed, printed_entry, words}
+use Rattle.residue.specs.Functions.{Called, declaration, declared_of, initialize, is_constant, read_name, record_name}
+use Rattle.residue.specs.Instructions.{Words, block_number, instructions, local, operand_of, print_tail, read_into, reads, side_operand, typed_operand}
+use Rattle.residue.specs.Printed.{argument, edges_to, entries, initialize_call, printed, printed_entry, words}
 use Rattle.residue.specs.Scopes.{gives_of, item_uses, tail_uses}
 use Rattle.residue.specs.Valid.{Valid, all_differ, all_tails, distinct_cases, is_own_name, own_names, val_has, value_has}
 use Rattle.residue.specs.Valid as valid
 use Rattle.type_check.specs.declared.code.TypeCode.TheVariants as code
 use Rattle.type_check.specs.Faults.{at_function, at_module, at_step, is_no_second, keeps_rule, on_function, where_entry}
 use Rattle.type_check.specs.Rules.{are_distinct, body_has_own_name, cases_differ, constants_have_own_names, functions_known, is_entry_type, is_known, is_reserved, operand_known, shape_agrees, types_agree}
-use Rattle.type_check.specs.Typing.{all_have, local_type, phi_wants, same_type, wants}
+use Rattle.type_check.specs.Typing.{all_have, phi_wants, same_type, wants}
 use Rattle.printed_residue.specs.Places.{names_before}
 use Rattle.printed_residue.proofs.Calls.{Declares, measures, op_class}
 use Rattle.printed_residue.proofs.Looks.{differ}
-use Rattle.printed_residue.proofs.Declared.{Among, fits}
+use Rattle.printed_residue.proofs.Declared.{fits}
 use Rattle.printed_residue.proofs.Ends.{entry-is, initialize-declared}
 use Rattle.printed_residue.proofs.Facts.{passes-here}
 use Rattle.printed_residue.proofs.Items.{ItemDeclared}
 use Rattle.printed_residue.proofs.Lines.{item-declared}
 use Rattle.printed_residue.proofs.Running.{ReadDeclared}
 use Rattle.numbered_residue.proofs.Forms.{equal-passes, first-passes, item-uses-pass, second-passes, tail-uses-pass, third-passes}
-use Rattle.numbered_residue.proofs.Passing.{Passes, all-both, all-each, all-map, all-steps, entry-passes}
+use Rattle.numbered_residue.proofs.Passing.{all-map, all-steps, entry-passes}
 use Rattle.typed_residue.proofs.Edges.{entries-there-pass}
-use Rattle.typed_residue.proofs.Types.{all-agree-in, arg-typed, both, fits-there, param-type, three, two}
-
-not-false : (b : Bool) → not b ≡ true → b ≡ false
-not-false true h = cc
-not-false false h = refl
+use Rattle.typed_residue.proofs.Types.{all-agree-in, arg-typed, fits-there, param-type}
+use Rattle.numbered_residue.proofs.Shared.{both, every, not-false, three, two}
 
 -- ---- a test of all steps, at a spot
 
@@ -147,10 +137,6 @@ module _ (r : Residue) (t : Target) (ok : Valid r t) where
   none-cases : cases_differ NoStep ≡ true
   unfolding cases_differ
   none-cases = refl
-
-  every : {A : Type 0} (test : A → Bool) (xs : List A) → ((x : A) → test x ≡ true) → list_all test xs ≡ true
-  every test [] h = refl
-  every test (x ∷ xs) h = both (test x) (list_all test xs) (h x) (every test xs h)
 
   all-cases : all_steps (λ g s. cases_differ s) m ≡ true
   all-cases = all-steps (λ g s. cases_differ s) r t (entry-passes r t cases_differ ok (record {

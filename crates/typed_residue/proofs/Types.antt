@@ -1,23 +1,20 @@
 -- The types in the printed module agree.
-use Rattle.std.proofs.Common.{◌≡◌, ℕ, zero, suc, ◌+◌, ◌<◌, ◌≤◌, Bool, true, false, ◌&&◌, not, Option, None, Some, List, [], ◌∷◌, ◌++◌, length, map, take, refl, sym, ap, ◌∙◌, subst, arith, append_assoc, append-nil, length-append, option_map}
+use Rattle.std.proofs.Common.{◌≡◌, ℕ, zero, suc, ◌+◌, ◌<◌, Bool, true, false, ◌&&◌, Option, None, Some, List, [], ◌∷◌, ◌++◌, length, map, take, refl, sym, ap, ◌∙◌, subst, arith, append_assoc, length-append, option_map}
 use Rattle.std.proofs.lemmas.Bool.{and_parts}
-use Rattle.std.proofs.lemmas.Option.{slice_get-map, slice_get_within}
+use Rattle.std.proofs.lemmas.Option.{slice_get-map}
 use Rattle.std.specs.List.{list_all}
-use Rattle.std.specs.Prelude.{◌||◌, ◌==◌, ⊤, if◌then◌else◌, flat_map, is_some, slice_get, slice_index_or}
-use Rattle.ir_module.specs.declared.tree.Callee.TheVariants as callee
+use Rattle.std.specs.Prelude.{if◌then◌else◌, is_some, slice_get, slice_index_or}
 use Rattle.ir_module.specs.declared.tree.Function.{Function}
-use Rattle.ir_module.specs.declared.tree.Inst.{Inst}
 use Rattle.ir_module.specs.declared.tree.InstKind.TheVariants as kind
 use Rattle.ir_module.specs.declared.tree.Module.{Module}
 use Rattle.ir_module.specs.declared.tree.Operand.{Operand}
 use Rattle.ir_module.specs.declared.tree.Operand.TheVariants as operand
-use Rattle.ir_module.specs.declared.tree.Term.TheVariants as term
-use Rattle.ir_module.specs.Classes.{parameter_types, type_words}
-use Rattle.ir_module.specs.Numbered.{all_steps, is_void}
-use Rattle.ir_module.specs.Steps.{Step, PhiAt, InstAt, TermAt, NoStep}
+use Rattle.ir_module.specs.Classes.{type_words}
+use Rattle.ir_module.specs.Numbered.{all_steps}
+use Rattle.ir_module.specs.Steps.{Step, PhiAt, InstAt, TermAt}
 use Rattle.ir_values.specs.declared.ids.BlockId.{BlockId}
 use Rattle.ir_values.specs.declared.int.Width.{Width}
-use Rattle.ir_values.specs.declared.int.Width.TheVariants.{W1, W8, W16, W32, W64}
+use Rattle.ir_values.specs.declared.int.Width.TheVariants.{W1, W64}
 use Rattle.ir_values.specs.declared.ty.Ty.{Ty}
 use Rattle.ir_values.specs.declared.ty.Ty.TheVariants as ty
 use Rattle.ir_values.specs.declared.value.Value.{Value}
@@ -38,39 +35,23 @@ use Rattle.residue.specs.declared.parts.Part.{Part}
 use Rattle.residue.specs.declared.parts.Residue.{Residue}
 use Rattle.residue.specs.declared.parts.Tail.{Tail}
 use Rattle.residue.specs.declared.parts.Tail.TheVariants as tail
-use Rattle.residue.specs.Functions.{Called, all_items, called, calls_of, calls_of_residue, declaration, declared_of, first_uses, initialize, is_among, is_constant, place_among, read_name, read_result, reading, record_name, types_of}
-use Rattle.residue.specs.Instructions.{Words, block_number, call_void, defining, equal_test, instructions, local, names_of_item, named_value, operand_of, print_tail, read_into, reads, side_operand, typed_operand}
-use Rattle.residue.specs.Printed.{argument, edges_of, edges_to, entries, initialize_call, locals_from, name_in, names_of, names_of_items, names_of_params, printed, printed_entry, words}
-use Rattle.residue.specs.Scopes.{gives_of, item_uses, items_of, jumps, tail_uses, uses_of, width_in}
+use Rattle.residue.specs.Functions.{Called, all_items, called, calls_of, calls_of_residue, declaration, declared_of, first_uses, initialize, is_among, is_constant, place_among, read_result, reading, record_name, types_of}
+use Rattle.residue.specs.Instructions.{Words, block_number, call_void, instructions, local, names_of_item, named_value, operand_of, print_tail, read_into, reads, side_operand, typed_operand}
+use Rattle.residue.specs.Printed.{argument, edges_to, entries, initialize_call, names_of, names_of_items, names_of_params, printed, printed_entry, words}
+use Rattle.residue.specs.Scopes.{gives_of, item_uses, items_of, jumps, tail_uses, width_in}
 use Rattle.residue.specs.Valid.{Valid, all_alike, all_agree, all_tails, args_fit, fits_part, is_instruction, is_of_width, item_allowed, val_has, value_has}
-use Rattle.type_check.specs.Rules.{kind_agrees, result_agrees, shape_agrees, term_agrees}
-use Rattle.type_check.specs.Typing.{all_have, condition, constant_has, has_words, is_of_type, local_type, operand_has, phi_wants, same_type, wants}
+use Rattle.type_check.specs.Rules.{kind_agrees, result_agrees, shape_agrees}
+use Rattle.type_check.specs.Typing.{all_have, condition, constant_has, has_words, is_of_type, operand_has, phi_wants, same_type, wants}
 use Rattle.printed_residue.specs.Places.{names_before}
 use Rattle.printed_residue.proofs.Declared.{Among, Finds, among-back, among-front, call-finds, declared-types, fits}
 use Rattle.printed_residue.proofs.Facts.{cut, passes-here}
 use Rattle.printed_residue.proofs.Lines.{all-typed}
-use Rattle.printed_residue.proofs.Looks.{same-numbers}
 use Rattle.printed_residue.proofs.Naming.{equal-names, names-by}
 use Rattle.numbered_residue.proofs.Forms.{equal-passes, first-passes, item-uses-pass, second-passes, tail-uses-pass, third-passes}
-use Rattle.numbered_residue.proofs.Passing.{Passes, all-both, all-each, all-map, all-steps, entry-passes}
+use Rattle.numbered_residue.proofs.Passing.{all-map, all-steps, entry-passes}
 use Rattle.typed_residue.proofs.Edges.{entries-there-pass}
 use Rattle.typed_residue.proofs.Placed.{Names, dynamic-type, equal-are, placed, placed-among, type_at}
-
-pub both : (a b : Bool) → a ≡ true → b ≡ true → (a && b) ≡ true
-both a b h g = ap (λ x. x && b) h ∙ g
-
-pub two : (a b : Bool) → a ≡ true → b ≡ true → (a && (b && true)) ≡ true
-two a b h g = both a (b && true) h (ap (λ s. s && true) g)
-
-pub three : (a b c : Bool) → a ≡ true → b ≡ true → c ≡ true → (a && (b && (c && true))) ≡ true
-three a b c h g i = both a (b && (c && true)) h (two b c g i)
-
-width-itself : (w : Width) → same_width w w ≡ true
-width-itself W1 = refl
-width-itself W8 = refl
-width-itself W16 = refl
-width-itself W32 = refl
-width-itself W64 = refl
+use Rattle.numbered_residue.proofs.Shared.{both, three, two, width-itself}
 
 -- the first of what is there stays the first
 first-stays : (cs : List Called) (c : Called) (there : List Called) → slice_get (first_uses (c ∷ there) cs) 0 ≡ Some c

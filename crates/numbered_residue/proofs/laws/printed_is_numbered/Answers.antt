@@ -1,6 +1,7 @@
 use Rattle.numbered_residue.proofs.Distinct.{distinct}
 use Rattle.numbered_residue.proofs.Listed.{bodies, few, parameters-not-void, types-whole}
-use Rattle.numbered_residue.proofs.Ranges.{both, ranges}
+use Rattle.numbered_residue.proofs.Ranges.{ranges}
+use Rattle.numbered_residue.proofs.Shared.{both}
 use Rattle.numbered_residue.proofs.Results.{results}
 use Rattle.numbered_residue.proofs.Shapes.{flags, integers, named, steps-not-void, steps-whole, written}
 use Rattle.numbered_residue.proofs.laws.printed_is_numbered.Goals as goal

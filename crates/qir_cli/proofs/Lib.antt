@@ -1,3 +1,4 @@
+pub mod Admitting
 pub mod BaseBehaviour
 mod Below
 pub mod Calls

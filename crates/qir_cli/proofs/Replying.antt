@@ -8,6 +8,8 @@ use Rattle.ir_reader.specs.declared.parsed.ReadStop.TheVariants as read
 use Rattle.ir_reader.specs.Answers.{MayStopWith}
 use Rattle.ir_reader.specs.Laws.{OneAnswer}
 use Rattle.ir_values.specs.declared.memory.Memory.{Memory as NoMemory}
+use Rattle.type_check.specs.Laws.{HasOneFirstFault, TypedOrFaulty}
+use Rattle.qir_cli.specs.Admission.{Admits}
 use Rattle.qir_cli.specs.BaseText.{base_text}
 use Rattle.qir_cli.specs.code.Stops.{Meets, stop_of}
 use Rattle.qir_cli.specs.declared.command.Command.{Command}
@@ -23,8 +25,9 @@ use Rattle.qir_cli.specs.Laws.{HasOneText, RepliesAreOne, RepliesExist}
 use Rattle.qir_cli.specs.OneBlock.{one_block}
 use Rattle.qir_cli.specs.Reading.{Reads, ReadsAs}
 use Rattle.qir_cli.specs.Refusals.{at_start}
-use Rattle.qir_cli.specs.Replies.{ComesTo, Does, DoesText, instructions, limit, Lowers, LowersBase, place_in, printed, refused, Replies, reply_of, within_budget, within_limit}
+use Rattle.qir_cli.specs.Replies.{ComesTo, Does, DoesAdmitted, DoesText, instructions, limit, Lowers, LowersBase, place_in, printed, refused, Replies, reply_of, within_budget, within_limit}
 use Rattle.qir_cli.specs.Stages.{Is, Then, refuses, leads_on, AtMostOne, AtLeastOne}
+use Rattle.qir_cli.proofs.Admitting.{admits-one, admits-some}
 use Rattle.qir_cli.proofs.BaseBehaviour.{lowered-is}
 use Rattle.qir_cli.proofs.Reading.{reads-one, reads-some, refused-misreads}
 use Rattle.qir_cli.proofs.Stages.{is-one, is-some, never-both, same-given, then-one, then-some}
@@ -62,31 +65,36 @@ lowers-some : (budget : ℕ) (parsed : Parsed) (e : Entry) → Is (within_budget
 lowers-some budget parsed e h =
     (Ok (record { status = Done; text = base_text parsed.module e.function }), lowers-replies budget parsed e _ (sym h) refl refl)
 
-does-one : (command : Command) (parsed : Parsed) → HasOneText command → AtMostOne (Does command parsed)
+does-one : (command : Command) (parsed : Parsed) → HasOneText command → AtMostOne (DoesAdmitted command parsed)
 does-one Print parsed _ = is-one _
 does-one (LowerBase budget) parsed _ =
     then-one (Is (within_budget budget parsed (one_block parsed.module))) (Lowers budget parsed.module) (is-one _) (lowers-one budget parsed.module)
 
-does-some : (command : Command) (parsed : Parsed) → AtLeastOne (Does command parsed)
+does-some : (command : Command) (parsed : Parsed) → AtLeastOne (DoesAdmitted command parsed)
 does-some Print parsed = is-some _
 does-some (LowerBase budget) parsed =
     then-some (Is (within_budget budget parsed (one_block parsed.module))) (Lowers budget parsed.module) (is-some _) (lowers-some budget parsed)
 
-module _ (one : OneAnswer) where
+module _ (one : OneAnswer) (single : HasOneFirstFault) where
   text-one : (command : Command) (text : List ℕ) → HasOneText command → AtMostOne (DoesText command text)
-  text-one command text has = then-one (Reads text) (Does command) (reads-one one text) (λ parsed. does-one command parsed has)
-
-  text-some : (command : Command) (text : List ℕ) → AtLeastOne (DoesText command text)
-  text-some command text = then-some (Reads text) (Does command) (reads-some one text) (λ parsed _. does-some command parsed)
+  text-one command text has =
+      then-one (Reads text) (Does command) (reads-one one text)
+      (λ parsed. then-one (Admits parsed) (DoesAdmitted command) (admits-one single parsed) (λ given. does-one command given has))
 
   comes-one : (command : Command) (bytes : List ℕ) → HasOneText command → AtMostOne (ComesTo command bytes)
   comes-one command bytes has = then-one (Is (within_limit bytes)) (DoesText command) (is-one _) (λ text. text-one command text has)
 
-  comes-some : (command : Command) (bytes : List ℕ) → AtLeastOne (ComesTo command bytes)
-  comes-some command bytes = then-some (Is (within_limit bytes)) (DoesText command) (is-some _) (λ text _. text-some command text)
-
   pub replies-one : RepliesAreOne
   replies-one command bytes has r s a b = a.2 ∙ ap reply_of (comes-one command bytes has a.0 b.0 a.1 b.1) ∙ sym b.2
+
+module _ (one : OneAnswer) (judged : TypedOrFaulty) where
+  text-some : (command : Command) (text : List ℕ) → AtLeastOne (DoesText command text)
+  text-some command text =
+      then-some (Reads text) (Does command) (reads-some one text)
+      (λ parsed _. then-some (Admits parsed) (DoesAdmitted command) (admits-some judged parsed) (λ given _. does-some command given))
+
+  comes-some : (command : Command) (bytes : List ℕ) → AtLeastOne (ComesTo command bytes)
+  comes-some command bytes = then-some (Is (within_limit bytes)) (DoesText command) (is-some _) (λ text _. text-some command text)
 
   pub replies-some : RepliesExist
   replies-some command bytes = let c = comes-some command bytes in (reply_of c.0, (c.0, c.1, refl))
@@ -120,6 +128,11 @@ meets-refused first second why s f e = subst (λ s. Meets (Then first second) (E
 
 pub meets-limit : (command : Command) (bytes : List ℕ) → length bytes ≤ limit → (r : Result Reply Stop) → Meets (DoesText command bytes) r → Meets (ComesTo command bytes) r
 meets-limit command bytes short r m = meets-then (Is (within_limit bytes)) (DoesText command) bytes (within-limit-is bytes short) r m
+
+-- what the first stage stops at
+pub meets-first : {A B : Type 0} (first : Result A Refusal → Type 0) (second : A → Result B Refusal → Type 0) (s : Stop) → Meets first (Err s) → Meets (Then first second) (Err s)
+meets-first first second (stop.Refused why) m = refuses why m
+meets-first first second stop.Memory m = m
 
 -- what a command does with a module that was read
 pub meets-does : (command : Command) (bytes : List ℕ) → length bytes ≤ limit → (parsed : Parsed) → ReadsAs bytes parsed → (r : Result Reply Stop) → Meets (Does command parsed) r → Meets (ComesTo command bytes) r

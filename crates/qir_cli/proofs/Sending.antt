@@ -20,7 +20,7 @@ use Rattle.qir_cli.specs.declared.status.Status.{Status}
 use Rattle.qir_cli.specs.declared.status.Status.TheVariants.{Done, Refused, BadWords, Stopped, ReadFault, WriteFault, Memory}
 use Rattle.qir_cli.specs.Outcomes.{Answered, HasReply, IsAnswered, IsUnwritten, PartlyAnswered}
 use Rattle.qir_cli.specs.Refusals.{at_start}
-use Rattle.qir_cli.specs.Replies.{ComesTo, Does, limit, Lowers, Replies, reply_of, too_long, within_limit}
+use Rattle.qir_cli.specs.Replies.{ComesTo, DoesAdmitted, limit, Lowers, Replies, reply_of, too_long, within_limit}
 use Rattle.qir_cli.specs.Stages.{refuses, leads_on}
 use Rattle.qir_cli.proofs.Replying.{too-long-is}
 
@@ -29,7 +29,7 @@ lowers-answered : (budget : ℕ) (m : Module) (e : Entry) (end : Result Reply Re
 lowers-answered budget m e (Ok reply) l = subst IsAnswered (sym l.status) tt
 lowers-answered budget m e (Err why) l = absurd l
 
-does-answered : (command : Command) (parsed : Parsed) (end : Result Reply Refusal) → Does command parsed end → IsAnswered (reply_of end).status
+does-answered : (command : Command) (parsed : Parsed) (end : Result Reply Refusal) → DoesAdmitted command parsed end → IsAnswered (reply_of end).status
 does-answered Print parsed end d = subst (λ end. IsAnswered (reply_of end).status) (sym d) tt
 does-answered (LowerBase budget) parsed end (refuses why f) = tt
 does-answered (LowerBase budget) parsed end (leads_on e end' f last) = lowers-answered budget parsed.module e end' last
@@ -37,7 +37,8 @@ does-answered (LowerBase budget) parsed end (leads_on e end' f last) = lowers-an
 comes-answered : (command : Command) (bytes : List ℕ) (end : Result Reply Refusal) → ComesTo command bytes end → IsAnswered (reply_of end).status
 comes-answered command bytes end (refuses why f) = tt
 comes-answered command bytes end (leads_on text end' f (refuses why g)) = tt
-comes-answered command bytes end (leads_on text end' f (leads_on parsed end'' g does)) = does-answered command parsed end'' does
+comes-answered command bytes end (leads_on text end' f (leads_on parsed end'' g (refuses why a))) = tt
+comes-answered command bytes end (leads_on text end' f (leads_on parsed end'' g (leads_on given end''' a does))) = does-answered command given end''' does
 
 pub replies-answered : (command : Command) (bytes : List ℕ) (reply : Reply) → Replies command bytes reply → IsAnswered reply.status
 replies-answered command bytes reply r = subst (λ r. IsAnswered r.status) (sym r.2) (comes-answered command bytes r.0 r.1)

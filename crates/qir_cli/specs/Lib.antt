@@ -1,3 +1,4 @@
+pub mod Admission
 pub mod BaseGates
 pub mod BaseText
 pub mod BaseTree

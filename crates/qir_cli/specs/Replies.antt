@@ -4,9 +4,9 @@ use Rattle.ir_module.specs.declared.places.Place.{Place}
 use Rattle.ir_module.specs.declared.places.Spot.TheVariants.{At}
 use Rattle.ir_module.specs.declared.tree.Function.{Function}
 use Rattle.ir_module.specs.declared.tree.Module.{Module}
-use Rattle.ir_module.specs.Places.{place_of}
 use Rattle.ir_printer.specs.Canonical.{canonical}
 use Rattle.ir_reader.specs.declared.parsed.Parsed.{Parsed}
+use Rattle.qir_cli.specs.Admission.{Admits, place_at}
 use Rattle.qir_cli.specs.BaseText.{base_text}
 use Rattle.qir_cli.specs.BaseTree.{base_tree, naming_of}
 use Rattle.qir_cli.specs.declared.command.Command.{Command}
@@ -19,7 +19,7 @@ use Rattle.qir_cli.specs.declared.status.Status.TheVariants.{Done, Refused}
 use Rattle.qir_cli.specs.Headline.{Lowered}
 use Rattle.qir_cli.specs.OneBlock.{one_block, block_insts}
 use Rattle.qir_cli.specs.Reading.{Reads}
-use Rattle.qir_cli.specs.Refusals.{start, at_start, refusal_line}
+use Rattle.qir_cli.specs.Refusals.{at_start, refusal_line}
 use Rattle.qir_cli.specs.Stages.{Then, Is}
 use Rattle.ir_module.specs.Entry.{Entry}
 
@@ -30,13 +30,9 @@ limit = 4194304
 abbrev pub within_limit : List ℕ → Result (List ℕ) Refusal
 within_limit bytes = if nat_le (length bytes) limit then Ok bytes else Err (at_start TooLong)
 
-abbrev or_start : Option Place → Place
-or_start None = start
-or_start (Some place) = place
-
 -- the place of instruction number i, from 0, of the one block of function number f
 abbrev pub place_in : Parsed → ℕ → ℕ → Place
-place_in parsed f i = or_start (place_of parsed.places (At (record { func = record { 0 = f }; block = record { 0 = 0 }; index = i })))
+place_in parsed f i = place_at parsed (At (record { func = record { 0 = f }; block = record { 0 = 0 }; index = i }))
 
 -- the instructions of the one block, with the return
 abbrev pub instructions : Function → ℕ
@@ -58,7 +54,7 @@ abbrev pub Lowers : ℕ → Module → Entry → Result Reply Refusal → Type 0
 Lowers budget m e (Ok reply) = RepliesLowered budget m e reply
 Lowers budget m e (Err why) = ⊥
 
--- the stages of `lower base` once the text was read
+-- the stages of `lower base` once the module was admitted
 abbrev pub LowersBase : ℕ → Parsed → Result Reply Refusal → Type 0
 LowersBase budget parsed = Then (Is (within_budget budget parsed (one_block parsed.module))) (Lowers budget parsed.module)
 
@@ -66,10 +62,14 @@ LowersBase budget parsed = Then (Is (within_budget budget parsed (one_block pars
 abbrev pub printed : Module → Reply
 printed m = record { status = Done; text = canonical m }
 
--- what a command does with a module that was read, and the places of its spots
+-- what a command does with a module that was admitted, and the places of its spots
+abbrev pub DoesAdmitted : Command → Parsed → Result Reply Refusal → Type 0
+DoesAdmitted Print parsed = Is (Ok (printed parsed.module))
+DoesAdmitted (LowerBase budget) parsed = LowersBase budget parsed
+
+-- with one that was read
 abbrev pub Does : Command → Parsed → Result Reply Refusal → Type 0
-Does Print parsed = Is (Ok (printed parsed.module))
-Does (LowerBase budget) parsed = LowersBase budget parsed
+Does command parsed = Then (Admits parsed) (DoesAdmitted command)
 
 -- with a text within the limit
 abbrev pub DoesText : Command → List ℕ → Result Reply Refusal → Type 0

@@ -2,12 +2,14 @@
 ghost use Rattle.qir_cli.specs.Laws.{RepliesAreOne, RepliesExist};
 
 use ir_reader::one_answer;
+use type_check::{modules_are_typed_or_faulty, modules_have_one_first_fault};
 
 /// A command that has one text for an input has at most one reply to it.
 pub fn replies_are_one()
     ensures { RepliesAreOne }
 {
     one_answer();
+    modules_have_one_first_fault();
 }
 
 /// Every command has a reply to every input.
@@ -15,4 +17,5 @@ pub fn replies_exist()
     ensures { RepliesExist }
 {
     one_answer();
+    modules_are_typed_or_faulty();
 }

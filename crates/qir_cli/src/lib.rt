@@ -1,6 +1,7 @@
 //! The commands of `qir`, each with its whole reply to every input.
 #![tactic(auto)]
 
+mod admitted;
 mod base_lowering;
 mod command;
 mod laws;

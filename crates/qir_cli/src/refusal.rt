@@ -8,6 +8,7 @@ use ir_module::Place;
 use ir_reader::{ReadCode, ReadStop};
 use ir_values::{Bytes, Memory, push_decimal};
 use std::alloc::Global;
+use type_check::TypeCode;
 
 /// Why an input is refused. The stage that refuses it is part of the fault.
 #[derive(Clone, Copy)]
@@ -16,6 +17,8 @@ pub(crate) enum Fault {
     TooLong,
     /// The bytes are no module text.
     Read(ReadCode),
+    /// The module breaks a rule of admission.
+    Rule(TypeCode),
     /// The module can't be lowered.
     Lower(LowerCode),
 }
@@ -93,6 +96,7 @@ impl Fault {
         match self {
             Fault::TooLong => b"input",
             Fault::Read(_) => b"read",
+            Fault::Rule(_) => b"type",
             Fault::Lower(_) => b"lower",
         }
     }
@@ -104,6 +108,7 @@ impl Fault {
         match self {
             Fault::TooLong => text.extend_from_slice(b"1"),
             Fault::Read(code) => push_decimal(text, u128::from(code.number())),
+            Fault::Rule(code) => push_decimal(text, u128::from(code.number())),
             Fault::Lower(code) => text.extend_from_slice(code.code()),
         }
     }
@@ -115,6 +120,7 @@ impl Fault {
         match self {
             Fault::TooLong => b"TooLong",
             Fault::Read(code) => code.name(),
+            Fault::Rule(code) => code.name(),
             Fault::Lower(code) => code.name(),
         }
     }

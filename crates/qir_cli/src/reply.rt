@@ -1,9 +1,12 @@
 //! The replies of commands to texts.
 ghost use Rattle.std.specs.Prelude.{◌≡◌, ◌≤◌, length, IfOk, Ok as Gives};
+ghost use Rattle.qir_cli.specs.code.AdmittedCode.{parsed_of};
+ghost use Rattle.qir_cli.specs.code.Placed.{Placed};
 ghost use Rattle.qir_cli.specs.code.Stops.{Meets};
 ghost use Rattle.qir_cli.specs.Replies as spec;
 ghost use Rattle.qir_cli.specs.Stages.{Is};
 
+use crate::admitted::{Admitted, admit_module};
 use crate::command::Command;
 use crate::lower_base::lower_base;
 use crate::refusal::{Fault, Refusal, Stop};
@@ -49,9 +52,19 @@ fn run(alloc: Global, command: Command, text: &[u8]) -> Result<Reply, Stop>
     ensures { Meets (spec.ComesTo command text.now) result }
 {
     let parsed = ir_reader::read(alloc, text)?;
+    let admitted = admit_module(alloc, parsed)?;
+    does(alloc, command, &admitted)
+}
+
+/// What the command does with a module that was admitted.
+fn does(alloc: Global, command: Command, a: &Admitted) -> Result<Reply, Stop>
+    requires { Placed (parsed_of a.now) }
+    ensures { Meets (spec.DoesAdmitted command (parsed_of a.now)) result }
+{
+    let m = a.checked.module();
     match command {
-        Command::Print => print_module(alloc, &parsed.module),
-        Command::LowerBase { budget } => lower_base(alloc, budget, &parsed),
+        Command::Print => print_module(alloc, m),
+        Command::LowerBase { budget } => lower_base(alloc, budget, m, &a.places),
     }
 }
 

@@ -1,12 +1,15 @@
 use Rattle.std.proofs.Common.{sym, subst}
+use Rattle.std.specs.Prelude.{Err}
 use Rattle.std.proofs.lemmas.Result.{err_from_is_err_and}
+use Rattle.qir_cli.specs.Admission.{Admits}
+use Rattle.qir_cli.specs.code.AdmittedCode.{parsed_of}
+use Rattle.qir_cli.specs.code.Placed.{Placed}
 use Rattle.qir_cli.specs.code.Stops.{Meets}
-use Rattle.qir_cli.specs.declared.command.Command.TheVariants.{Print, LowerBase}
 use Rattle.qir_cli.specs.Reading.{ReadsAs}
-use Rattle.qir_cli.specs.Replies.{Does, DoesText}
+use Rattle.qir_cli.specs.Replies.{Does, DoesAdmitted, DoesText}
 use Rattle.qir_cli.proofs.reply.run.Goals as goal
 use Rattle.qir_cli.proofs.Spots.{placed}
-use Rattle.qir_cli.proofs.Replying.{meets-does, meets-limit, meets-stopped}
+use Rattle.qir_cli.proofs.Replying.{meets-does, meets-first, meets-limit, meets-stopped, meets-then}
 
 pub returns-in_err-parsed : goal.returns-in_err-parsed
 returns-in_err-parsed c =
@@ -15,19 +18,27 @@ returns-in_err-parsed c =
     (subst (Meets (DoesText c.args.command c.args.text.now)) (sym p.1)
     (meets-stopped c.args.command c.args.text.now c.in_err-parsed.field-0.0 p.0 c.in_err-parsed.ensures.refused p.2))
 
-pub lower_base-requires : goal.lower_base-requires
-lower_base-requires c = placed c.in_ok-parsed.parsed c.in_ok-parsed.ensures.few c.in_ok-parsed.ensures.spots
+pub admit_module-requires : goal.admit_module-requires
+admit_module-requires c = record { numbered = c.in_ok-parsed.ensures.printable.numbered; placed = c.in_ok-parsed.ensures.spots }
 
-pub returns-in-Print : goal.returns-in-Print
-returns-in-Print c =
+pub returns-in_err-admitted : goal.returns-in_err-admitted
+returns-in_err-admitted c =
     let parsed = c.in_ok-parsed.parsed in
     let reads : ReadsAs c.args.text.now parsed = record { spells = c.in_ok-parsed.ensures.module; places = c.in_ok-parsed.ensures.places } in
-    meets-does c.args.command c.args.text.now c.requires parsed reads c.print_module.result
-    (subst (λ command. Meets (Does command parsed) c.print_module.result) (sym c.in-Print.is) c.print_module.ensures)
+    let p = err_from_is_err_and c.from_residual-in_err-admitted.result c.from_residual-in_err-admitted.ensures.1 in
+    meets-does c.args.command c.args.text.now c.requires parsed reads c.from_residual-in_err-admitted.result
+    (subst (Meets (Does c.args.command parsed)) (sym p.1)
+    (subst (λ s. Meets (Does c.args.command parsed) (Err s)) (sym p.2)
+    (meets-first (Admits parsed) (DoesAdmitted c.args.command) c.in_err-admitted.field-0.0 c.in_err-admitted.ensures)))
+
+pub does-requires : goal.does-requires
+does-requires c =
+    subst Placed (sym c.in_ok-admitted.ensures.same)
+    (placed c.in_ok-parsed.parsed c.in_ok-parsed.ensures.few c.in_ok-parsed.ensures.spots)
 
 pub returns : goal.returns
 returns c =
     let parsed = c.in_ok-parsed.parsed in
     let reads : ReadsAs c.args.text.now parsed = record { spells = c.in_ok-parsed.ensures.module; places = c.in_ok-parsed.ensures.places } in
-    meets-does c.args.command c.args.text.now c.requires parsed reads c.lower_base.result
-    (subst (λ command. Meets (Does command parsed) c.lower_base.result) (sym c.in-LowerBase.is) c.lower_base.ensures)
+    meets-does c.args.command c.args.text.now c.requires parsed reads c.does.result
+    (meets-then (Admits parsed) (DoesAdmitted c.args.command) (parsed_of c.in_ok-admitted.admitted) c.in_ok-admitted.ensures c.does.result c.does.ensures)

@@ -1,0 +1,34 @@
+-- Admission as the code sees it.
+use Rattle.std.specs.Prelude.{IsSome, Result, Ok, Err, List}
+use Rattle.admission.specs.declared.stop.AdmitStop.{AdmitStop}
+use Rattle.admission.specs.declared.stop.AdmitStop.TheVariants as admit
+use Rattle.ir_module.specs.declared.places.Place.{Place}
+use Rattle.ir_module.specs.declared.places.Spot.{Spot}
+use Rattle.ir_module.specs.declared.tree.Module.{Module}
+use Rattle.ir_module.specs.Places.{place_of}
+use Rattle.ir_reader.specs.declared.parsed.Parsed.{Parsed}
+use Rattle.qir_cli.specs.Admission.{or_start}
+use Rattle.qir_cli.specs.declared.admitted.Admitted.{Admitted}
+use Rattle.qir_cli.specs.declared.refusal.Fault.TheVariants as fault
+use Rattle.qir_cli.specs.declared.refusal.Stop.{Stop}
+use Rattle.qir_cli.specs.declared.refusal.Stop.TheVariants as stop
+
+-- an admitted module as the specification sees it
+abbrev pub parsed_as : Module → List (Spot × Place) → Parsed
+parsed_as m places = record { «module» = m; places = places }
+
+abbrev pub parsed_of : Admitted → Parsed
+parsed_of a = parsed_as a.checked.tree a.places
+
+abbrev pub given_of : Result Admitted Stop → Result Parsed Stop
+given_of (Ok a) = Ok (parsed_of a)
+given_of (Err why) = Err why
+
+-- the fault has its place among these
+abbrev pub IsPlaced : List (Spot × Place) → AdmitStop → Type 0
+IsPlaced places (admit.Refused code spot back) = IsSome (place_of places spot)
+IsPlaced places (admit.Memory back) = Unit {0}
+
+abbrev pub admit_stop : List (Spot × Place) → AdmitStop → Stop
+admit_stop places (admit.Refused code spot back) = stop.Refused (record { fault = fault.Rule code; place = or_start (place_of places spot) })
+admit_stop places (admit.Memory back) = stop.Memory

@@ -68,6 +68,15 @@ pub fn bytes(alloc: Global, text: &[u8]) -> Result<Bytes, Memory> {
     Ok(bytes)
 }
 
+/// A text of so many blanks.
+pub fn blanks(alloc: Global, count: usize) -> Result<Bytes, Memory> {
+    let mut text = Bytes::new(alloc);
+    for _ in 0..count {
+        text.push(b' ')?;
+    }
+    Ok(text)
+}
+
 fn calls(alloc: Global, numbers: &[u64]) -> Result<Calls, Memory> {
     let mut calls = Calls::new(alloc);
     calls.extend_from_slice(numbers)?;

@@ -1,5 +1,5 @@
 //! `lower base`.
-use crate::given::{Outcome, Ports, bytes, lowered, run, text_of};
+use crate::given::{Outcome, Ports, blanks, bytes, lowered, run, text_of};
 use ir_values::{Bytes, Memory};
 use qir_cli::Status;
 use std::alloc::Global;
@@ -140,22 +140,30 @@ fn other_modules_are_refused(rt: HostRuntime) -> Result<(), Fail> {
     let alloc = rt.alloc();
     let record = "call void @__quantum__rt__result_record_output(%Result* null, i8* null)";
     let one = "call void @__quantum__qis__h__body(%Qubit* inttoptr (i64 1 to %Qubit*))";
-    let texts = [
-        Bytes::new(alloc),
-        text_of(alloc, "0", "1", [record, RET].as_slice())?,
-        text_of(alloc, "1", "0", [one, RET].as_slice())?,
-        text_of(
-            alloc,
-            "0",
-            "0",
-            [ALLOCATE_A, RELEASE_A, H_A, RET].as_slice(),
-        )?,
-        blanks(alloc, 4_194_304)?,
+    let rows: [(Bytes, &[u8]); 4] = [
+        (Bytes::new(alloc), b"REFUSED\ttype\t6\t1\t1\tNoEntry\n"),
+        (
+            text_of(alloc, "1", "0", [one, RET].as_slice())?,
+            b"REFUSED\ttype\t8\t3\t3\tIdRange\n",
+        ),
+        (
+            text_of(alloc, "0", "1", [record, RET].as_slice())?,
+            FIRST_PATH,
+        ),
+        (
+            text_of(
+                alloc,
+                "0",
+                "0",
+                [ALLOCATE_A, RELEASE_A, H_A, RET].as_slice(),
+            )?,
+            FIRST_PATH,
+        ),
     ];
-    for text in texts {
+    for (text, line) in rows {
         let refused = lower(alloc, "7", text.as_slice())?;
         assert_eq!(rt; refused.status, Status::Refused);
-        assert_eq!(rt; refused.written.as_slice(), FIRST_PATH);
+        assert_eq!(rt; refused.written.as_slice(), line);
     }
     let long = blanks(alloc, 4_194_305)?;
     let refused = lower(alloc, "7", long.as_slice())?;
@@ -184,14 +192,6 @@ fn faults_of_texts_are_told(rt: HostRuntime) -> Result<(), Fail> {
         assert_eq!(rt; refused.written.as_slice(), line);
     }
     Ok(())
-}
-
-fn blanks(alloc: Global, count: usize) -> Result<Bytes, Memory> {
-    let mut text = Bytes::new(alloc);
-    for _ in 0..count {
-        text.push(b' ')?;
-    }
-    Ok(text)
 }
 
 #[test]

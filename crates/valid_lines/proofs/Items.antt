@@ -25,20 +25,21 @@ use Rattle.kept_items.specs.declared.val.Val.{Val}
 use Rattle.kept_items.specs.declared.val.Val.TheVariants.{Known, Dynamic}
 use Rattle.residue.specs.Functions.{types_of}
 use Rattle.residue.specs.Scopes.{item_uses}
-use Rattle.residue.specs.Valid.{all_known, base_permits, caps_permit, first_known, has_count, is_base_record, is_int_record, is_constant_result, is_known, is_operation, item_allowed, item_compares, label_below, operation_known, output_known, recorded_type, takes_types}
+use Rattle.residue.specs.Valid.{all_known, base_permits, caps_permit, first_known, has_count, is_base_record, is_int_record, is_constant_result, is_instruction, is_known, is_operation, item_allowed, item_compares, label_below, operation_known, output_known, recorded_type, takes_types}
 use Rattle.static_steps.specs.Configurations.{Bounds, IsValue}
 use Rattle.static_steps.specs.Operations.{or_cause, wrong_arg, wrong_args}
 use Rattle.static_steps.specs.Results.{const_bit}
 use Rattle.fused_parts.specs.Parts.{renamed, renamed_arg, renamed_item}
 use Rattle.valid_steps.specs.Items.{AreOperands, IsItem, IsOperand, is_count, is_read, is_recorded, permits_record}
+use Rattle.valid_lines.proofs.Names.{operation-named}
 
 -- ---- truth of tests
 
-true-or : (a b : Bool) → b ≡ true → (a || b) ≡ true
+pub true-or : (a b : Bool) → b ≡ true → (a || b) ≡ true
 true-or true b e = refl
 true-or false b e = e
 
-or-true : (a b : Bool) → a ≡ true → (a || b) ≡ true
+pub or-true : (a b : Bool) → a ≡ true → (a || b) ≡ true
 or-true true b e = refl
 or-true false b e = cc
 
@@ -91,6 +92,17 @@ module _ (mine : List Dyn) where
     known-operation (item.Read d v) n h = refl
     known-operation (item.Equal d v u) n h = refl
     known-operation (item.Output c args) n h = refl
+
+    pub named : (i : Item) (n : ℕ) → IsItem m t b ts held i → is_instruction (renamed_item mine n i) ≡ true
+    named (item.Operation name args) n h =
+        ⊎_elim (λ e. operation-named name (signature ty.Void (types_of args)) class.Gate refl e) (λ e. operation-named name (signature ty.Void (types_of args)) class.Measure refl e) h.0
+    named (item.Binary d o flags w x y) n h = refl
+    named (item.Convert d o w x to) n h = refl
+    named (item.Icmp d o w x y) n h = refl
+    named (item.Select d w c x y) n h = refl
+    named (item.Read d v) n h = refl
+    named (item.Equal d v u) n h = refl
+    named (item.Output c args) n h = refl
 
     takes : (c : Class) (us : List Ty) → HasTypes c ty.Void us → permits_record t c ≡ true → takes_types (recorded_type c) us ≡ true
     takes class.Tuple us h e = ap (takes_types (recorded_type class.Tuple)) h.1

@@ -19,7 +19,7 @@ use Rattle.fused_parts.specs.Parts.{Rest, first_of, freed, item_line, joined, le
 
 -- ---- tests of all of a list
 
-both-pass : {A : Type 0} (test : A → Bool) (xs ys : List A) → list_all test xs ≡ true → list_all test ys ≡ true → list_all test (xs ++ ys) ≡ true
+pub both-pass : {A : Type 0} (test : A → Bool) (xs ys : List A) → list_all test xs ≡ true → list_all test ys ≡ true → list_all test (xs ++ ys) ≡ true
 both-pass test [] ys h k = k
 both-pass test (x ∷ xs) ys h k =
     let p = and_parts (test x) (list_all test xs) h in and_from (test x) (list_all test (xs ++ ys)) p.0 (both-pass test xs ys p.1 k)

@@ -11,14 +11,15 @@ use Rattle.residue.specs.declared.parts.Part.{Part}
 use Rattle.residue.specs.declared.parts.Residue.{Residue}
 use Rattle.residue.specs.Functions.{all_items}
 use Rattle.residue.specs.Scopes.{item_uses, items_of}
-use Rattle.residue.specs.Valid.{base_permits, caps_permit, item_allowed, item_compares, label_below, operation_known, output_known}
+use Rattle.residue.specs.Valid.{base_permits, caps_permit, caps_permit_tail, is_instruction, item_allowed, item_compares, label_below, operation_known, output_known}
 use Rattle.fused_parts.specs.Nodes.{Node}
 use Rattle.fused_parts.specs.Parts.{parts_of, renamed_item}
 use Rattle.unroller.specs.Programs.{Program}
 use Rattle.valid_steps.specs.Items.{IsItem}
-use Rattle.valid_lines.specs.Laws.{AreValid, IsStepOf, items_permitted}
-use Rattle.valid_lines.proofs.Items.{allowed, base-permitted, caps-permitted, compared, item-labels, known-operation, known-output}
+use Rattle.valid_lines.specs.Laws.{AreValid, IsStepOf, items_permitted, tails_permitted}
+use Rattle.valid_lines.proofs.Items.{allowed, base-permitted, caps-permitted, compared, item-labels, known-operation, known-output, named}
 use Rattle.valid_lines.proofs.Parts.{AllPass, parts-pass}
+use Rattle.valid_lines.proofs.Tails.{tails-permitted}
 use Rattle.valid_lines.proofs.Steps.{ItemFits, item-fits}
 
 module _ (p : Program) (nodes : List Node) (flags : List Bool) (part_of : ℕ → ℕ) (shared : Option ℕ) (r : Residue) (steps : (i : ℕ) (x : Node) → slice_get nodes i ≡ Some x → IsStepOf p x)
@@ -33,6 +34,10 @@ module _ (p : Program) (nodes : List Node) (flags : List Bool) (part_of : ℕ �
   permitted Base e = by-test base_permits (λ i f mine n. base-permitted mine p.m f.below f.types f.held i n (subst (λ t. IsItem p.m t f.below f.types f.held i) e f.fits))
   permitted (Adaptive caps) e = by-test (caps_permit caps) (λ i f mine n. caps-permitted mine p.m f.below f.types f.held caps i n (subst (λ t. IsItem p.m t f.below f.types f.held i) e f.fits))
 
+  tails : (t : Target) → p.target ≡ t → tails_permitted r t
+  tails Base e = tt
+  tails (Adaptive caps) e = ap (list_all (λ (y : Part). caps_permit_tail caps y.tail)) parts ∙ tails-permitted p caps nodes flags part_of shared e steps
+
   pub items-are-valid : AreValid r p.target (length p.m.globals)
   items-are-valid = record {
     allowed = by-test item_allowed (λ i f mine n. allowed mine p.m p.target f.below f.types f.held i n f.fits);
@@ -41,5 +46,7 @@ module _ (p : Program) (nodes : List Node) (flags : List Bool) (part_of : ℕ �
     compared = by-test item_compares (λ i f mine n. compared mine p.m p.target f.below f.types f.held i n f.fits);
     labels_fit =
         by-test (λ x. list_all (λ (a : Ty × Val). label_below (length p.m.globals) a.1) (item_uses x)) (λ i f mine n. item-labels mine p.m p.target f.below f.types f.held i n f.fits);
+    named = by-test is_instruction (λ i f mine n. named mine p.m p.target f.below f.types f.held i n f.fits);
     permitted = permitted p.target refl;
+    tails = tails p.target refl;
   }

@@ -1,5 +1,5 @@
 -- The items of a lowered program that is made of the configurations of a module without faults.
-use Rattle.std.specs.Prelude.{◌≡◌, ℕ, Bool, true, Option, Some, List, length, slice_get}
+use Rattle.std.specs.Prelude.{◌≡◌, ℕ, ⊤, Bool, true, Option, Some, List, length, slice_get}
 use Rattle.std.specs.List.{list_all}
 use Rattle.kept_items.specs.declared.target.Target.{Target}
 use Rattle.kept_items.specs.declared.target.Target.TheVariants.{Base, Adaptive}
@@ -7,7 +7,7 @@ use Rattle.path_search.specs.Explored.{labels}
 use Rattle.residue.specs.declared.parts.Residue.{Residue}
 use Rattle.residue.specs.Functions.{all_items}
 use Rattle.residue.specs.Scopes.{item_uses}
-use Rattle.residue.specs.Valid.{base_permits, caps_permit, item_compares, items_allowed, label_below, operations_known, outputs_known}
+use Rattle.residue.specs.Valid.{all_tails, base_permits, caps_permit, caps_permit_tail, is_instruction, item_compares, items_allowed, label_below, operations_known, outputs_known}
 use Rattle.fused_parts.specs.Nodes.{Node}
 use Rattle.fused_parts.specs.Parts.{parts_of}
 use Rattle.unroller.specs.Programs.{IsOutcome, Program, step_of}
@@ -25,7 +25,12 @@ abbrev pub items_permitted : Residue → Target → Bool
 items_permitted r Base = list_all base_permits (all_items r)
 items_permitted r (Adaptive caps) = list_all (caps_permit caps) (all_items r)
 
--- the rules of a valid residue that speak of its items alone
+-- and how parts end: nothing is said of a Base program, which has one part
+abbrev pub tails_permitted : Residue → Target → Type 0
+tails_permitted r Base = ⊤
+tails_permitted r (Adaptive caps) = all_tails (caps_permit_tail caps) r ≡ true
+
+-- the rules of a valid residue that speak of an item or a tail alone
 pub record AreValid (r : Residue) (t : Target) (globals : ℕ) : Type 0 where
   -- binary instructions have only flags, and conversions only widths, that their operations allow
   pub allowed : items_allowed r ≡ true
@@ -37,7 +42,10 @@ pub record AreValid (r : Residue) (t : Target) (globals : ℕ) : Type 0 where
   pub compared : list_all item_compares (all_items r) ≡ true
   -- labels are in range of the constants
   pub labels_fit : list_all (λ x. list_all (λ a. label_below globals a.1) (item_uses x)) (all_items r) ≡ true
+  -- the names of operations begin as those of quantum instructions do
+  pub named : list_all is_instruction (all_items r) ≡ true
   pub permitted : items_permitted r t ≡ true
+  pub tails : tails_permitted r t
 
 -- The parts that are made of such nodes have only valid items, however they are divided, numbered and joined.
 abbrev pub ItemsAreValid : Type 0

@@ -1,5 +1,5 @@
 //! Modules that were admitted.
-ghost use Rattle.std.specs.Prelude.{◌≡◌, ◌<◌, length, slice_get, IfSome};
+ghost use Rattle.std.specs.Prelude.{◌≡◌, ◌<◌, length, map, slice_get, IfSome};
 ghost use Rattle.ir_module.specs.Classes.{class_of_function};
 ghost use Rattle.name_flow.specs.Tables.{HasBody, IsFlowOf};
 ghost use Rattle.type_check.specs.Required.{required_qubits, required_results};
@@ -85,6 +85,20 @@ impl Checked {
             Some(flow) => flow,
             None => unreachable!(),
         }
+    }
+
+    /// The flows of the functions, in order: one where there is a body.
+    pub fn flows(&self) -> &[Option<Flow>]
+        ensures { result.now ≡ self.now.flows }
+    {
+        self.tables.flows.as_slice()
+    }
+
+    /// The class of each function in order, as it would have if it were declared.
+    pub fn classes(&self) -> &[Option<Class>]
+        ensures { result.now ≡ map class_of_function self.now.tree.funcs }
+    {
+        self.tables.classes.as_slice()
     }
 
     /// Whether the local name `x` is live at the point `p`: whether some walk from there reaches a use

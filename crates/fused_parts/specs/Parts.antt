@@ -138,7 +138,8 @@ module _ (part_of : ℕ → ℕ) where
   abbrev pub choice_tail : List Dyn → Choice → Links → Tail
   choice_tail mine choice.One (l ∷ links) = tail.Jump (jump_to mine l)
   choice_tail mine (choice.Branch d) (l ∷ k ∷ links) = tail.Branch (Dynamic (number_at mine d)) (jump_to mine l) (jump_to mine k)
-  choice_tail mine (choice.Switch d w is) links = tail.Switch w (Dynamic (number_at mine d)) (last_jump mine links) (case_jumps mine is links)
+  choice_tail mine (choice.Switch d w is) links =
+      tail.Switch w (Dynamic (number_at mine d)) (last_jump mine links) (case_jumps mine is links)
   choice_tail mine c links = nowhere
 
   abbrev pub outcome_tail : Option ℕ → List Dyn → Outcome → Links → Tail

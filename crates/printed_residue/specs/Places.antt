@@ -143,7 +143,9 @@ module _ (r : Residue) where
 
   -- a Base run stands behind the lines before line q of the one part
   pub record AtBase (p : Part) (q : ℕ) (st : State) (v : Whole) : Type 0 where
-    pub at : v.at ≡ in_entry (phase_after r.irreversible 0 (items_of (take q p.lines))) (base_index (phase_after r.irreversible 0 (items_of (take q p.lines))) (items_of (take q p.lines)))
+    pub at : v.at
+        ≡ in_entry (phase_after r.irreversible 0 (items_of (take q p.lines)))
+        (base_index (phase_after r.irreversible 0 (items_of (take q p.lines))) (items_of (take q p.lines)))
     pub no_waits : v.waits ≡ []
     pub state : v.state ≡ lowered_state naming st
     pub bits : BitsBelow r.own_results st.bits

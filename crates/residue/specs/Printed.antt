@@ -82,7 +82,10 @@ block n phis insts t = record { name = name.Text n; phis = phis; insts = insts; 
 
 -- the first instruction of the entry
 abbrev pub initialize_call : Inst
-initialize_call = record { result = None; what = kind.Call ty.Void (callee.Func (record { 0 = 1 })) ((ty.Text, operand.Const value.NoLabel) ∷ []) }
+initialize_call = record {
+  result = None;
+  what = kind.Call ty.Void (callee.Func (record { 0 = 1 })) ((ty.Text, operand.Const value.NoLabel) ∷ []);
+}
 
 -- Base: the items of the one part stand in three blocks, and they define no names
 abbrev pub print_phase : Residue → ℕ → List Item → List Inst

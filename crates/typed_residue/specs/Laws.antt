@@ -56,11 +56,19 @@ pub record FitsLimit (r : Residue) (limit : ℕ) : Type 0 where
 
 -- the required numbers are plain
 abbrev pub KeepsStated : Type 0
-KeepsStated = (r : Residue) (t : Target) (limit : ℕ) (s : Spot) → Valid r t → FitsLimit r limit → keeps_rule (printed r t) limit s code.BadNumberAttr ≡ true
+KeepsStated =
+    (r : Residue) (t : Target) (limit : ℕ) (s : Spot)
+    → Valid r t
+    → FitsLimit r limit
+    → keeps_rule (printed r t) limit s code.BadNumberAttr ≡ true
 
 -- numbers of qubits and results are below them
 abbrev pub KeepsNumbers : Type 0
-KeepsNumbers = (r : Residue) (t : Target) (limit : ℕ) (s : Spot) → Valid r t → FitsLimit r limit → keeps_rule (printed r t) limit s code.IdRange ≡ true
+KeepsNumbers =
+    (r : Residue) (t : Target) (limit : ℕ) (s : Spot)
+    → Valid r t
+    → FitsLimit r limit
+    → keeps_rule (printed r t) limit s code.IdRange ≡ true
 
 -- so it breaks no rule of admission
 abbrev pub PrintedIsTyped : Type 0

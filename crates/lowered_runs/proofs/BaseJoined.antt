@@ -80,10 +80,10 @@ args-none m b ts [] h = tt
 args-none m b ts (a ∷ args) h = (val-none m b ts a.0 a.1 h.0, args-none m b ts args h.1)
 
 item-none : (m : Module) (b : Bounds) (ts : List (Option Ty)) (held : List ℕ) (i : Item) → IsItem m Base b ts held i → ItemBelow 0 i
-item-none m b ts held (item.Binary d o flags w x y) h = (val-none m b ts (ty.Int w) x h.3, val-none m b ts (ty.Int w) y h.4)
-item-none m b ts held (item.Icmp d o w x y) h = (val-none m b ts (ty.Int w) x h.2, val-none m b ts (ty.Int w) y h.3)
+item-none m b ts held (item.Binary d o flags w x y) h = (val-none m b ts (ty.Int w) x h.4, val-none m b ts (ty.Int w) y h.5)
+item-none m b ts held (item.Icmp d o w x y) h = (val-none m b ts (ty.Int w) x h.3, val-none m b ts (ty.Int w) y h.4)
 item-none m b ts held (item.Convert d o w x to) h = val-none m b ts (ty.Int w) x h.3
-item-none m b ts held (item.Select d w c x y) h = (val-none m b ts (ty.Int W1) c h.2, val-none m b ts (ty.Int w) x h.3, val-none m b ts (ty.Int w) y h.4)
+item-none m b ts held (item.Select d w c x y) h = (val-none m b ts (ty.Int W1) c h.3, val-none m b ts (ty.Int w) x h.4, val-none m b ts (ty.Int w) y h.5)
 item-none m b ts held (item.Read d v) h = tt
 item-none m b ts held (item.Equal d v u) h = tt
 item-none m b ts held (item.Operation name args) h = args-none m b ts args h.1

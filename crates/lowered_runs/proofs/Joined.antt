@@ -169,11 +169,11 @@ args-below m t b ts n [] e h = tt
 args-below m t b ts n (a ∷ args) e h = (val-below m t b ts n a.0 a.1 e h.0, args-below m t b ts n args e h.1)
 
 item-below : (m : Module) (t : Target) (b : Bounds) (ts : List (Option Ty)) (held : List ℕ) (n : ℕ) (i : Item) → length ts ≡ n → IsItem m t b ts held i → ItemBelow n i
-item-below m t b ts held n (item.Binary d o flags w x y) e h = (val-below m t b ts n (ty.Int w) x e h.3, val-below m t b ts n (ty.Int w) y e h.4)
-item-below m t b ts held n (item.Icmp d o w x y) e h = (val-below m t b ts n (ty.Int w) x e h.2, val-below m t b ts n (ty.Int w) y e h.3)
+item-below m t b ts held n (item.Binary d o flags w x y) e h = (val-below m t b ts n (ty.Int w) x e h.4, val-below m t b ts n (ty.Int w) y e h.5)
+item-below m t b ts held n (item.Icmp d o w x y) e h = (val-below m t b ts n (ty.Int w) x e h.3, val-below m t b ts n (ty.Int w) y e h.4)
 item-below m t b ts held n (item.Convert d o w x to) e h = val-below m t b ts n (ty.Int w) x e h.3
 item-below m t b ts held n (item.Select d w c x y) e h =
-    (val-below m t b ts n (ty.Int W1) c e h.2, val-below m t b ts n (ty.Int w) x e h.3, val-below m t b ts n (ty.Int w) y e h.4)
+    (val-below m t b ts n (ty.Int W1) c e h.3, val-below m t b ts n (ty.Int w) x e h.4, val-below m t b ts n (ty.Int w) y e h.5)
 item-below m t b ts held n (item.Read d v) e h = tt
 item-below m t b ts held n (item.Equal d v u) e h = tt
 item-below m t b ts held n (item.Operation name args) e h = args-below m t b ts n args e h.1

@@ -41,13 +41,13 @@ use Rattle.numbered_residue.proofs.Passing.{all-each, all-map}
 use Rattle.numbered_residue.proofs.Shared.{locals-long, parameters-long, params-long}
 
 -- so many local names in a row
-abbrev pub row : ℕ → ℕ → List LocalId
-row n zero = []
-row n (suc k) = local n ∷ row (suc n) k
+abbrev pub names_in_row : ℕ → ℕ → List LocalId
+names_in_row n zero = []
+names_in_row n (suc k) = local n ∷ names_in_row (suc n) k
 
-row-append : (n a b m : ℕ) → m ≡ n + a → row n a ++ row m b ≡ row n (a + b)
-row-append n zero b m e = ap (λ k. row k b) (let z : m ≡ n = omega (arith, e) in z) ∙ ap (row n) (let z : b ≡ 0 + b = omega arith in z)
-row-append n (suc a) b m e = ap (λ l. local n ∷ l) (row-append (suc n) a b m (omega (arith, e))) ∙ ap (row n) (let z : suc (a + b) ≡ suc a + b = omega arith in z)
+row-append : (n a b m : ℕ) → m ≡ n + a → names_in_row n a ++ names_in_row m b ≡ names_in_row n (a + b)
+row-append n zero b m e = ap (λ k. names_in_row k b) (let z : m ≡ n = omega (arith, e) in z) ∙ ap (names_in_row n) (let z : b ≡ 0 + b = omega arith in z)
+row-append n (suc a) b m e = ap (λ l. local n ∷ l) (row-append (suc n) a b m (omega (arith, e))) ∙ ap (names_in_row n) (let z : suc (a + b) ≡ suc a + b = omega arith in z)
 
 abbrev defines : Inst → List LocalId
 defines i = option_to_list i.result
@@ -68,14 +68,14 @@ block-defines b =
     insts [] = refl
     insts (i ∷ is) = ap (λ l. defines i ++ l) (insts is)
 
-phis-define : (ws : Words) (edges : List (ℕ × Jump)) (n i : ℕ) (params : List (Dyn × Width)) → map (λ x. x.result) (print_phis ws edges n i params) ≡ row n (length params)
+phis-define : (ws : Words) (edges : List (ℕ × Jump)) (n i : ℕ) (params : List (Dyn × Width)) → map (λ x. x.result) (print_phis ws edges n i params) ≡ names_in_row n (length params)
 phis-define ws edges n i [] = refl
 phis-define ws edges n i (x ∷ params) = ap (λ l. local n ∷ l) (phis-define ws edges (suc n) (suc i) params)
 
-side-defines : (ws : Words) (n : ℕ) (v : Value) → flat_map defines (side_reads ws n v) ≡ row n (reads v)
+side-defines : (ws : Words) (n : ℕ) (v : Value) → flat_map defines (side_reads ws n v) ≡ names_in_row n (reads v)
 side-defines ws n v = by (is_constant v)
   where
-    by : (b : Bool) → flat_map defines (if b then [] else (read_into ws n v ∷ [])) ≡ row n (if b then 0 else 1)
+    by : (b : Bool) → flat_map defines (if b then [] else (read_into ws n v ∷ [])) ≡ names_in_row n (if b then 0 else 1)
     by true = refl
     by false = refl
 
@@ -86,7 +86,7 @@ reading-long v = by (is_constant v)
     by true = refl
     by false = refl
 
-item-defines : (ws : Words) (n : ℕ) (x : Item) → flat_map defines (instructions ws n x) ≡ row n (length (names_of_item x))
+item-defines : (ws : Words) (n : ℕ) (x : Item) → flat_map defines (instructions ws n x) ≡ names_in_row n (length (names_of_item x))
 item-defines ws n (item.Binary d o g w a b) = refl
 item-defines ws n (item.Icmp d o w a b) = refl
 item-defines ws n (item.Convert d o w a to) = refl
@@ -99,31 +99,31 @@ item-defines ws n (item.Equal d v u) =
     let e = reading-long u in
     flat_map-append defines (side_reads ws n v) (side_reads ws (n + reads v) u ++ equal_test n v u ∷ [])
     ∙ ap (λ l. l ++ flat_map defines (side_reads ws (n + reads v) u ++ equal_test n v u ∷ [])) (side-defines ws n v)
-    ∙ ap (λ l. row n (reads v) ++ l) (flat_map-append defines (side_reads ws (n + reads v) u) (equal_test n v u ∷ []) ∙ ap (λ l. l ++ row (n + reads v + reads u) 1) (side-defines ws (n + reads v) u) ∙ row-append (n + reads v) (reads u) 1 (n + reads v + reads u) refl)
+    ∙ ap (λ l. names_in_row n (reads v) ++ l) (flat_map-append defines (side_reads ws (n + reads v) u) (equal_test n v u ∷ []) ∙ ap (λ l. l ++ names_in_row (n + reads v + reads u) 1) (side-defines ws (n + reads v) u) ∙ row-append (n + reads v) (reads u) 1 (n + reads v + reads u) refl)
     ∙ row-append n (reads v) (reads u + 1) (n + reads v) refl
-    ∙ ap (row n) (let z : reads v + (reads u + 1) ≡ length (names_of_item (item.Equal d v u)) = omega (arith, a, b, c, e) in z)
+    ∙ ap (names_in_row n) (let z : reads v + (reads u + 1) ≡ length (names_of_item (item.Equal d v u)) = omega (arith, a, b, c, e) in z)
 item-defines ws n (item.Operation name args) = refl
 item-defines ws n (item.Output c args) = refl
 
-items-define : (ws : Words) (n : ℕ) (xs : List Item) → flat_map defines (print_items ws n xs) ≡ row n (length (names_of_items xs))
+items-define : (ws : Words) (n : ℕ) (xs : List Item) → flat_map defines (print_items ws n xs) ≡ names_in_row n (length (names_of_items xs))
 items-define ws n [] = refl
 items-define ws n (x ∷ xs) =
     let a = length-append (names_of_item x) (names_of_items xs) in
     flat_map-append defines (instructions ws n x) (print_items ws (n + length (names_of_item x)) xs)
     ∙ ap (λ l. l ++ flat_map defines (print_items ws (n + length (names_of_item x)) xs)) (item-defines ws n x)
-    ∙ ap (λ l. row n (length (names_of_item x)) ++ l) (items-define ws (n + length (names_of_item x)) xs)
+    ∙ ap (λ l. names_in_row n (length (names_of_item x)) ++ l) (items-define ws (n + length (names_of_item x)) xs)
     ∙ row-append n (length (names_of_item x)) (length (names_of_items xs)) (n + length (names_of_item x)) refl
-    ∙ ap (row n) (sym a)
+    ∙ ap (names_in_row n) (sym a)
 
-part-defines : (r : Residue) (n free : ℕ) (p : Part) → flat_map step_defines (steps_of_block (print_part r n free p)) ≡ row free (length (names_of_part p))
+part-defines : (r : Residue) (n free : ℕ) (p : Part) → flat_map step_defines (steps_of_block (print_part r n free p)) ≡ names_in_row free (length (names_of_part p))
 part-defines r n free p =
     let a = length-append (names_of_params p.params) (names_of_items (items_of p.lines)) in
     let b = params-long p.params in
     block-defines (print_part r n free p)
     ∙ ap (λ l. l ++ flat_map defines (beginning n ++ print_items (words r) (free + length p.params) (items_of p.lines))) (phis-define (words r) (edges_to n r.parts) free 0 p.params)
-    ∙ ap (λ l. row free (length p.params) ++ l) (flat_map-append defines (beginning n) (print_items (words r) (free + length p.params) (items_of p.lines)) ∙ ap (λ l. l ++ flat_map defines (print_items (words r) (free + length p.params) (items_of p.lines))) (none n) ∙ items-define (words r) (free + length p.params) (items_of p.lines))
+    ∙ ap (λ l. names_in_row free (length p.params) ++ l) (flat_map-append defines (beginning n) (print_items (words r) (free + length p.params) (items_of p.lines)) ∙ ap (λ l. l ++ flat_map defines (print_items (words r) (free + length p.params) (items_of p.lines))) (none n) ∙ items-define (words r) (free + length p.params) (items_of p.lines))
     ∙ row-append free (length p.params) (length (names_of_items (items_of p.lines))) (free + length p.params) refl
-    ∙ ap (row free) (let z : length p.params + length (names_of_items (items_of p.lines)) ≡ length (names_of_part p) = omega (arith, a, b) in z)
+    ∙ ap (names_in_row free) (let z : length p.params + length (names_of_items (items_of p.lines)) ≡ length (names_of_part p) = omega (arith, a, b) in z)
   where
     none : (n : ℕ) → flat_map defines (beginning n) ≡ []
     none n = by (n == 0)
@@ -132,46 +132,46 @@ part-defines r n free p =
         by true = refl
         by false = refl
 
-parts-define : (r : Residue) (n free : ℕ) (parts : List Part) → flat_map step_defines (flat_map steps_of_block (print_parts r n free parts)) ≡ row free (length (names_of parts))
+parts-define : (r : Residue) (n free : ℕ) (parts : List Part) → flat_map step_defines (flat_map steps_of_block (print_parts r n free parts)) ≡ names_in_row free (length (names_of parts))
 parts-define r n free [] = refl
 parts-define r n free (p ∷ parts) =
     let a = length-append (names_of_part p) (names_of parts) in
     flat_map-append step_defines (steps_of_block (print_part r n free p)) (flat_map steps_of_block (print_parts r (suc n) (free + length (names_of_part p)) parts))
     ∙ ap (λ l. l ++ flat_map step_defines (flat_map steps_of_block (print_parts r (suc n) (free + length (names_of_part p)) parts))) (part-defines r n free p)
-    ∙ ap (λ l. row free (length (names_of_part p)) ++ l) (parts-define r (suc n) (free + length (names_of_part p)) parts)
+    ∙ ap (λ l. names_in_row free (length (names_of_part p)) ++ l) (parts-define r (suc n) (free + length (names_of_part p)) parts)
     ∙ row-append free (length (names_of_part p)) (length (names_of parts)) (free + length (names_of_part p)) refl
-    ∙ ap (row free) (sym a)
+    ∙ ap (names_in_row free) (sym a)
 
 -- ---- each name once
 
-none-counted : (x n k : ℕ) → x < n → count_by (λ y. y.0 == x) (row n k) ≡ 0
+none-counted : (x n k : ℕ) → x < n → count_by (λ y. y.0 == x) (names_in_row n k) ≡ 0
 none-counted x n zero lt = refl
 none-counted x n (suc k) lt =
-    sum_by-cons (λ y. cond (y.0 == x) 1 0) (local n) (row (suc n) k)
-    ∙ ap (λ b. cond b 1 0 + count_by (λ y. y.0 == x) (row (suc n) k)) (differ n x (λ e. absurd (omega (arith, e, lt))))
-    ∙ (let h = none-counted x (suc n) k (omega (arith, lt)) in let z : 0 + count_by (λ y. y.0 == x) (row (suc n) k) ≡ 0 = omega (arith, h) in z)
+    sum_by-cons (λ y. cond (y.0 == x) 1 0) (local n) (names_in_row (suc n) k)
+    ∙ ap (λ b. cond b 1 0 + count_by (λ y. y.0 == x) (names_in_row (suc n) k)) (differ n x (λ e. absurd (omega (arith, e, lt))))
+    ∙ (let h = none-counted x (suc n) k (omega (arith, lt)) in let z : 0 + count_by (λ y. y.0 == x) (names_in_row (suc n) k) ≡ 0 = omega (arith, h) in z)
 
 strict : {n x : ℕ} → n ≤ x → (n ≡ x → ⊥) → suc n ≤ x
 strict {n} {x} le h = ⊎_elim (λ l. l) (λ g. absurd (h (omega (arith, le, g)))) (cases_lt n x)
 
-once-counted : (x n k : ℕ) → n ≤ x → x < n + k → count_by (λ y. y.0 == x) (row n k) ≡ 1
+once-counted : (x n k : ℕ) → n ≤ x → x < n + k → count_by (λ y. y.0 == x) (names_in_row n k) ≡ 1
 once-counted x n zero le lt = absurd (omega (arith, le, lt))
 once-counted x n (suc k) le lt =
-    sum_by-cons (λ y. cond (y.0 == x) 1 0) (local n) (row (suc n) k)
+    sum_by-cons (λ y. cond (y.0 == x) 1 0) (local n) (names_in_row (suc n) k)
     ∙ by (n == x) refl (λ a. once-counted x (suc n) k a (omega (arith, lt)))
   where
-    by : (b : Bool) → (n == x) ≡ b → (suc n ≤ x → count_by (λ y. y.0 == x) (row (suc n) k) ≡ 1) → cond b 1 0 + count_by (λ y. y.0 == x) (row (suc n) k) ≡ 1
+    by : (b : Bool) → (n == x) ≡ b → (suc n ≤ x → count_by (λ y. y.0 == x) (names_in_row (suc n) k) ≡ 1) → cond b 1 0 + count_by (λ y. y.0 == x) (names_in_row (suc n) k) ≡ 1
     by true e ih = let z = same-numbers n x e in let h = none-counted x (suc n) k (omega (arith, z)) in omega (arith, h)
     by false e ih = let h = ih (strict le (other-numbers n x e)) in omega (arith, h)
 
-once-in-row : (f : Function) (n more : ℕ) → f.params ≡ 0 → results_of f ≡ row 0 (n + more) → defined_once f n more ≡ true
+once-in-row : (f : Function) (n more : ℕ) → f.params ≡ 0 → results_of f ≡ names_in_row 0 (n + more) → defined_once f n more ≡ true
 once-in-row f n zero e h = refl
 once-in-row f n (suc more) e h =
     let c : count_by (λ y. y.0 == n) (results_of f) ≡ 1 = ap (count_by (λ y. y.0 == n)) h ∙ once-counted n 0 (n + suc more) (omega arith) (omega arith) in
     ap (λ m. (m == (if nat_lt n f.params then 0 else 1)) && defined_once f (suc n) more) c
     ∙ ap (λ k. (1 == (if nat_lt n k then 0 else 1)) && defined_once f (suc n) more) e
     ∙ ap (λ b. (1 == (if b then 0 else 1)) && defined_once f (suc n) more) (none n)
-    ∙ once-in-row f (suc n) more e (h ∙ ap (row 0) (let y : n + suc more ≡ suc n + more = omega arith in y))
+    ∙ once-in-row f (suc n) more e (h ∙ ap (names_in_row 0) (let y : n + suc more ≡ suc n + more = omega arith in y))
   where
     none : (n : ℕ) → nat_lt n 0 ≡ false
     none n = grind arith
@@ -234,4 +234,4 @@ module _ (r : Residue) (t : Target) (ok : Valid r t) where
       by (Adaptive caps) e =
           subst (λ u. defined_once (printed_entry r u) 0 (length (printed_entry r u).locals) ≡ true) (sym e)
           (once-in-row (printed_entry r (Adaptive caps)) 0 (length (printed_entry r (Adaptive caps)).locals) refl
-          (parts-define r 0 0 r.parts ∙ ap (row 0) (let a = locals-long 0 (names_of r.parts) in let z : length (names_of r.parts) ≡ 0 + length (printed_entry r (Adaptive caps)).locals = omega (arith, a) in z)))
+          (parts-define r 0 0 r.parts ∙ ap (names_in_row 0) (let a = locals-long 0 (names_of r.parts) in let z : length (names_of r.parts) ≡ 0 + length (printed_entry r (Adaptive caps)).locals = omega (arith, a) in z)))

@@ -64,9 +64,9 @@ pub type Parts = Seq<Part>;
 pub type Names = Seq<Bytes>;
 
 /// A lowered program. `entry` and `attrs` are the name and the attributes of the source's entry, and
-/// `irreversible` names the irreversible operations that are called. `own_qubits` and `own_results` are
-/// the required numbers of the source, `all_qubits` and `all_results` those that are printed. Qubits and
-/// results stand as in the source.
+/// `irreversible` names the operations that can't be undone, those that are called among them.
+/// `own_qubits` and `own_results` are the required numbers of the source, `all_qubits` and `all_results`
+/// those that are printed. Qubits and results stand as in the source.
 #[derive(Drop)]
 pub struct Residue {
     pub globals: Constants,

@@ -1,0 +1,2 @@
+//! The lowered program of a module, made of its reachable configurations.
+#![tactic(auto)]

@@ -1,0 +1,26 @@
+-- Every search has a verdict.
+use Rattle.std.specs.Prelude.{◌≡◌, ◌⊎◌, List}
+use Rattle.path_search.specs.Paths.{Search}
+use Rattle.path_search.specs.Openings.{ListsAll}
+use Rattle.path_search.specs.Verdict.{Accepts, Refuses}
+use Rattle.path_search.specs.declared.reason.Reason.{Reason}
+
+-- it is accepted, and these are its nodes in path order
+pub record IsAccepted {N K : Type 0} (s : Search N K) : Type 0 where
+  pub accepts : Accepts s
+  pub nodes : List N
+  pub lists : ListsAll s nodes
+
+-- it is refused at this node for this reason
+pub record IsRefused {N K : Type 0} (s : Search N K) : Type 0 where
+  pub at : N
+  pub reason : Reason K
+  pub refuses : Refuses s at reason
+
+-- nodes are told apart
+abbrev pub AreTold : Type 0 → Type 0
+AreTold N = (a b : N) → (a ≡ b) ⊎ (a ≡ b → ⊥)
+
+-- a search over nodes that are told apart is accepted or refused
+abbrev pub HasVerdict : {N K : Type 0} → Search N K → Type 0
+HasVerdict {N} s = AreTold N → IsAccepted s ⊎ IsRefused s

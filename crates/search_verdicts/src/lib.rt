@@ -1,0 +1,4 @@
+//! Every search has a verdict.
+#![tactic(auto)]
+
+pub mod laws;

@@ -1,5 +1,5 @@
 -- Every search has a verdict.
-use Rattle.std.specs.Prelude.{◌≡◌, ◌⊎◌, List}
+use Rattle.std.specs.Prelude.{◌⊎◌, List}
 use Rattle.path_search.specs.Paths.{Search}
 use Rattle.path_search.specs.Openings.{ListsAll}
 use Rattle.path_search.specs.Verdict.{Accepts, Refuses}
@@ -17,10 +17,6 @@ pub record IsRefused {N K : Type 0} (s : Search N K) : Type 0 where
   pub reason : Reason K
   pub refuses : Refuses s at reason
 
--- nodes are told apart
-abbrev pub AreTold : Type 0 → Type 0
-AreTold N = (a b : N) → (a ≡ b) ⊎ (a ≡ b → ⊥)
-
--- a search over nodes that are told apart is accepted or refused
+-- it is accepted or refused
 abbrev pub HasVerdict : {N K : Type 0} → Search N K → Type 0
-HasVerdict {N} s = AreTold N → IsAccepted s ⊎ IsRefused s
+HasVerdict s = IsAccepted s ⊎ IsRefused s

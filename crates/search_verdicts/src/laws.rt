@@ -2,8 +2,10 @@
 ghost use Rattle.path_search.specs.Paths.{Search};
 ghost use Rattle.search_verdicts.specs.Laws.{HasVerdict};
 
-/// Every search over nodes that are told apart is accepted, and then its nodes can be listed, or it is
-/// refused at some node for some reason.
-pub fn every_search_has_a_verdict<N, K>()
+use ir_values::Exact;
+
+/// Every search over nodes that `==` compares by their contents is accepted, and then its nodes can be listed,
+/// or it is refused at some node for some reason.
+pub fn every_search_has_a_verdict<N: Exact, K>()
     ensures { (s : Search N K) → HasVerdict s }
 {}

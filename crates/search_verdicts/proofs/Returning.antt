@@ -16,9 +16,9 @@ use Rattle.search_verdicts.specs.Laws.{IsMapped, graph_of}
 
 module _ {N K : Type 0} (s : Search N K) (same : (a b : N) → (a ≡ b) ⊎ (a ≡ b → ⊥)) where
   -- a simple path to a node
-  record HasSimple (g : N) : Type 0 where
-    path : List ℕ
-    simple : IsSimple s path g
+  pub record HasSimple (g : N) : Type 0 where
+    pub path : List ℕ
+    pub simple : IsSimple s path g
 
   -- behind a simple path, one edge leads to a node on it or on by a longer simple path
   further : (w : List ℕ) (h b : N) (i : ℕ) → IsSimple s w h → slice_get (successors s h) i ≡ Some b → HasSimple b
@@ -28,7 +28,7 @@ module _ {N K : Type 0} (s : Search N K) (same : (a b : N) → (a ≡ b) ⊎ (a 
   ]
 
   -- whatever a simple path and a walk behind it lead to
-  simple-behind : (q w : List ℕ) (h g : N) → IsSimple s w h → end_from s h q ≡ Some g → HasSimple g
+  pub simple-behind : (q w : List ℕ) (h g : N) → IsSimple s w h → end_from s h q ≡ Some g → HasSimple g
   simple-behind [] w h g simple e = record { path = w; simple = subst (IsSimple s w) (one_end s h h g [] (end_none s h) e) simple }
   simple-behind (i ∷ q) w h g simple e =
       let b = end_cons s h g i q e in
@@ -62,24 +62,24 @@ module _ {N K : Type 0} (s : Search N K) (same : (a b : N) → (a ≡ b) ⊎ (a 
         never-back i q t.path g g t.simple (record { path = t.path; prefix = prefix_self t.path; ends = t.simple.ends }) f
 
   -- what is listed is reached
-  reached : (nodes : List N) → ListsAll s nodes → (n : ℕ) (g : N) → slice_get nodes n ≡ Some g → (p : List ℕ) × IsEnd s p g
+  pub reached : (nodes : List N) → ListsAll s nodes → (n : ℕ) (g : N) → slice_get nodes n ≡ Some g → (p : List ℕ) × IsEnd s p g
   reached nodes all n g e =
       let p = get_some all.paths n (omega (arith, get_within nodes n g e, all.number)) in
       (p.0, all.ends n p.0 g p.1 e)
 
 -- ---- the nodes of an accepted search as a graph
 
-get-map : {A B : Type 0} (f : A → B) (xs : List A) (i : ℕ) (y : B) → slice_get (map f xs) i ≡ Some y → (x : A) × (slice_get xs i ≡ Some x) × (f x ≡ y)
+pub get-map : {A B : Type 0} (f : A → B) (xs : List A) (i : ℕ) (y : B) → slice_get (map f xs) i ≡ Some y → (x : A) × (slice_get xs i ≡ Some x) × (f x ≡ y)
 get-map f [] i y e = absurd (none-some y e)
 get-map f (x ∷ xs) zero y e = (x, refl, same_Some (f x) y e)
 get-map f (x ∷ xs) (suc i) y e = get-map f xs i y e
 
-map-get : {A B : Type 0} (f : A → B) (xs : List A) (i : ℕ) (x : A) → slice_get xs i ≡ Some x → slice_get (map f xs) i ≡ Some (f x)
+pub map-get : {A B : Type 0} (f : A → B) (xs : List A) (i : ℕ) (x : A) → slice_get xs i ≡ Some x → slice_get (map f xs) i ≡ Some (f x)
 map-get f [] i x e = absurd (none-some x e)
 map-get f (y ∷ xs) zero x e = ap (λ z. Some (f z)) (same_Some y x e)
 map-get f (y ∷ xs) (suc i) x e = map-get f xs i x e
 
-map-none : {A B : Type 0} (f : A → B) (xs : List A) (i : ℕ) → slice_get xs i ≡ None → slice_get (map f xs) i ≡ None
+pub map-none : {A B : Type 0} (f : A → B) (xs : List A) (i : ℕ) → slice_get xs i ≡ None → slice_get (map f xs) i ≡ None
 map-none f [] i e = refl
 map-none f (x ∷ xs) zero e = absurd (none-some x (sym e))
 map-none f (x ∷ xs) (suc i) e = map-none f xs i e

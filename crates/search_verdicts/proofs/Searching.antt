@@ -8,9 +8,10 @@ use Rattle.path_search.specs.Verdict.{IsBack, Refuses}
 use Rattle.path_search.specs.declared.reason.Reason.{Reason}
 use Rattle.path_search.specs.declared.reason.Reason.TheVariants.{OverBudget, BadNode, LeadsBack}
 use Rattle.path_search.specs.code.Frontier.{Frontier, Checked}
-use Rattle.path_search.proofs.Frontier.{arrives, begins, finds, get_some, leaves_off, listed, opens, passes}
+use Rattle.path_search.proofs.Frontier.{arrives, begins, ends_all, finds, get_some, get_within, leaves_off, listed, opens, passes, place}
 use Rattle.path_search.proofs.Verdict.{accepts, checks_more, checks_none, longest, refuses_back, refuses_bad, refuses_over}
-use Rattle.path_search.proofs.Walks.{end_push, simple_none}
+use Rattle.path_search.proofs.Walks.{end_push, one_end, simple_none}
+use Rattle.search_verdicts.proofs.Returning.{simple-behind}
 use Rattle.search_verdicts.specs.Laws.{IsAccepted, IsRefused}
 use Rattle.search_verdicts.proofs.Telling.{tell-back, tell-leads}
 
@@ -117,12 +118,24 @@ module _ {N K : Type 0} (s : Search N K) (same : (a b : N) → (a ≡ b) ⊎ (a 
   judged : Comes [] s.start [] → IsAccepted s ⊎ IsRefused s
   judged (refused g r t) = inr (record { at = g; reason = r; refuses = t })
   judged (left k qs f c l m) =
-      let t = ends-of qs (λ i p e. let simple = f.simple p (listed qs i p e) in (simple.0, simple.1.ends)) in
       inl (record {
         accepts = accepts s same k qs f c l;
         nodes = t.nodes;
         lists = record { paths = qs; opening = opens s (k ∷ []) qs f; number = t.number; ends = t.ends; longest = longest s k qs f l };
+        every = every;
       })
+    where
+      t : Ends qs
+      t = ends-of qs (λ i p e. let simple = f.simple p (listed qs i p e) in (simple.0, simple.1.ends))
+
+      every : (p : List ℕ) (g : N) → IsEnd s p g → (i : ℕ) × (slice_get t.nodes i ≡ Some g)
+      every p g e =
+          let simple = simple-behind s same p [] s.start g (simple_none s) e in
+          let found = f.covers simple.path g simple.simple (ends_all s k l simple.path g simple.simple) in
+          let at = place qs found.path found.listed in
+          let node = get_some t.nodes at.0 (omega (arith, t.number, get_within qs at.0 found.path at.1)) in
+          let one = one_end s s.start node.0 g found.path (t.ends at.0 found.path node.0 at.1 node.1) found.ends in
+          (at.0, node.1 ∙ ap Some one)
 
   pub verdict : IsAccepted s ⊎ IsRefused s
   verdict = judged (enter s.budget [] s.start [] (simple_none s) (begins s) (checks_none s) (λ p c e. omega (arith, c.1)) (omega arith))

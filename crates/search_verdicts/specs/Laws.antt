@@ -4,16 +4,17 @@ use Rattle.graph_cycles.specs.Cycles.{Graph, IsOnCycle}
 use Rattle.path_search.specs.declared.node.Visited.{Visited}
 use Rattle.path_search.specs.declared.visit.Link.{Link}
 use Rattle.path_search.specs.Explored.{LeadsTo}
-use Rattle.path_search.specs.Paths.{Search, successors}
+use Rattle.path_search.specs.Paths.{IsEnd, Search, successors}
 use Rattle.path_search.specs.Openings.{ListsAll}
 use Rattle.path_search.specs.Verdict.{Accepts, Refuses}
 use Rattle.path_search.specs.declared.reason.Reason.{Reason}
 
--- it is accepted, and these are its nodes in path order
+-- it is accepted, and these are its nodes in path order, all to which a path leads
 pub record IsAccepted {N K : Type 0} (s : Search N K) : Type 0 where
   pub accepts : Accepts s
   pub nodes : List N
   pub lists : ListsAll s nodes
+  pub every : (p : List ℕ) (g : N) → IsEnd s p g → (i : ℕ) × (slice_get nodes i ≡ Some g)
 
 -- it is refused at this node for this reason
 pub record IsRefused {N K : Type 0} (s : Search N K) : Type 0 where

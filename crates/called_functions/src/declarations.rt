@@ -7,8 +7,8 @@ use ir_values::{Bytes, Class, Copies, Memory, Name, Seq, Ty, Tys};
 use kept_items::Val;
 use std::alloc::Global;
 
-/// A copy of these bytes.
-pub(crate) fn text(alloc: Global, bytes: &[u8]) -> Result<Bytes, Memory>
+/// A copy of these bytes. [`Memory`] comes where there is none for it.
+pub fn text(alloc: Global, bytes: &[u8]) -> Result<Bytes, Memory>
     ensures { IfOk result (λ b. b ≡ bytes.now) }
 {
     let mut text = Bytes::new(alloc);
@@ -16,8 +16,9 @@ pub(crate) fn text(alloc: Global, bytes: &[u8]) -> Result<Bytes, Memory>
     Ok(text)
 }
 
-/// The name of the function that writes the records of a class.
-pub(crate) fn record_name(alloc: Global, class: Class) -> Result<Bytes, Memory>
+/// The name of the function that writes the records of a class, empty where a class has no records.
+/// [`Memory`] comes where there is none for it.
+pub fn record_name(alloc: Global, class: Class) -> Result<Bytes, Memory>
     ensures { IfOk result (λ n. n ≡ spec.record_name class) }
 {
     match class {

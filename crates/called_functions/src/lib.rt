@@ -4,4 +4,5 @@
 mod declarations;
 mod table;
 
-pub use table::{NameSet, Table, name_set, table_of};
+pub use declarations::{record_name, text};
+pub use table::{NameSet, Table, has_name, name_set, table_of};

@@ -30,8 +30,8 @@ pub fn name_set(alloc: Global, mut names: &[Bytes]) -> Result<NameSet, Memory>
     Ok(set)
 }
 
-/// Whether the set has this name.
-fn has_name(set: &NameSet, name: &Bytes) -> bool
+/// Whether the set has this name. It takes no memory.
+pub fn has_name(set: &NameSet, name: &Bytes) -> bool
     ensures { result ≡ spec.is_named set.now.keys name.now }
 {
     set.contains(name)

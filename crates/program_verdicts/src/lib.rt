@@ -1,0 +1,4 @@
+//! The verdict of constant evaluation on a program.
+#![tactic(auto)]
+
+pub mod laws;

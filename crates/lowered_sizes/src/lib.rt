@@ -1,0 +1,4 @@
+//! The sizes of lowered modules.
+#![tactic(auto)]
+
+pub mod laws;

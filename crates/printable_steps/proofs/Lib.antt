@@ -1,0 +1,10 @@
+pub mod Calls
+pub mod Edges
+pub mod Integers
+pub mod Names
+pub mod Operations
+pub mod Results
+pub mod Returns
+pub mod Sources
+pub mod Turns
+pub mod Whole

@@ -15,7 +15,7 @@ use Rattle.search_verdicts.proofs.Returning.{simple-behind}
 use Rattle.search_verdicts.specs.Laws.{IsAccepted, IsRefused}
 use Rattle.search_verdicts.proofs.Telling.{tell-back, tell-leads}
 
-length-push : {A : Type 0} (xs : List A) (x : A) → length (xs ++ x ∷ []) ≡ suc (length xs)
+pub length-push : {A : Type 0} (xs : List A) (x : A) → length (xs ++ x ∷ []) ≡ suc (length xs)
 length-push [] x = refl
 length-push (y ∷ xs) x = ap suc (length-push xs x)
 

@@ -1,0 +1,13 @@
+pub mod AdaptiveCalls
+pub mod AdaptiveSteps
+pub mod BaseCalls
+pub mod BaseSteps
+pub mod Broken
+pub mod CallRules
+pub mod Called
+pub mod Cycles
+pub mod Flags
+pub mod Functions
+pub mod Located
+pub mod Permitted
+pub mod Profiles

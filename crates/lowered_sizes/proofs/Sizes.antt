@@ -269,7 +269,7 @@ greater-right a b = by (nat_lt a b) refl
     by true e = omega arith
     by false e = grind (arith, e)
 
-greater-below : (a b c : ℕ) → a ≤ c → b ≤ c → greater a b ≤ c
+pub greater-below : (a b c : ℕ) → a ≤ c → b ≤ c → greater a b ≤ c
 greater-below a b c x y = by (nat_lt a b)
   where
     by : (less : Bool) → (if less then b else a) ≤ c

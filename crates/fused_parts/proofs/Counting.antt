@@ -15,7 +15,7 @@ clash : false ≡ true → ⊥
 clash e = cc
 
 -- what is left behind the first of a list
-behind : {A : Type 0} (d : A) (ws : List A) → 1 ≤ length ws → d ≡ get_or ws 0 d → ws ≡ d ∷ take (length ws - 1) (drop 1 ws)
+pub behind : {A : Type 0} (d : A) (ws : List A) → 1 ≤ length ws → d ≡ get_or ws 0 d → ws ≡ d ∷ take (length ws - 1) (drop 1 ws)
 behind d [] le e = absurd (omega arith)
 behind d (w ∷ ws) le e = ap (λ z. z ∷ ws) (sym e) ∙ ap (λ z. d ∷ z) (sym (rest-is w ws))
   where

@@ -1,5 +1,9 @@
 pub mod Counting
 pub mod Fusing
+pub mod Giving
+pub mod Lasts
+pub mod Passing
 pub mod Ranks
 pub mod Standing
+pub mod Starts
 pub mod BottomUp

@@ -2,9 +2,14 @@
 #![tactic(auto)]
 
 mod flags;
+mod layout;
 mod lines;
 mod numbers;
+mod parts;
+mod tails;
 mod widths;
 
 pub use flags::joins;
+pub use layout::Layout;
 pub use numbers::Numbers;
+pub use parts::{Source, parts_of};

@@ -1,10 +1,14 @@
 //! Dynamic values by their numbers in a lowered program.
-ghost use Rattle.std.specs.Prelude.{◌≡◌, map, IfOk};
-ghost use Rattle.fused_parts.specs.Parts.{number_at, renamed, renamed_arg, renamed_item};
+ghost use Rattle.std.specs.Prelude.{◌≡◌, ◌+◌, [], ◌∷◌, ◌++◌, Some, length, map, IfOk, OnOk};
+ghost use Rattle.fused_parts.specs.Nodes.{gives};
+ghost use Rattle.fused_parts.specs.Parts.{after, dyn, first_label, in_row, no_numbers, number_at, renamed, renamed_arg, renamed_item, with_widths};
 
-use ir_values::{Copies, Memory, Seq, Ty};
+use ir_values::{Copies, Memory, Seq, Ty, Width};
 use kept_items::{Dyn, Dyns, Item, TypedVals, Val};
+use path_search::Link;
+use residue::Params;
 use std::alloc::Global;
+use unroller::{Node, Outcome};
 
 /// The numbers of a configuration's Dynamic values, in their order there, and the first number that isn't
 /// given yet.
@@ -99,5 +103,91 @@ impl Numbers {
             out.push(self.at(*d))?;
         }
         Ok(out)
+    }
+
+    /// No value has a number.
+    pub fn none(alloc: Global) -> Numbers
+        ensures { result ≡ no_numbers }
+    {
+        Numbers {
+            free: 0,
+            mine: Seq::new(alloc),
+        }
+    }
+
+    /// The numbers of as many values as there are widths, none of which has one below `first`, and the parameters that
+    /// they are. [`Memory`] also comes where numbers end.
+    pub fn begin(alloc: Global, first: u64, widths: &[Width]) -> Result<(Numbers, Params), Memory>
+        ensures numbers { IfOk result (λ r. r.0 ≡ record { free = first + length widths.now; mine = in_row first (length widths.now) }) }
+        ensures params { IfOk result (λ r. r.1 ≡ with_widths (in_row first (length widths.now)) widths.now) }
+    {
+        let mut free = first;
+        let mut mine = Seq::new(alloc);
+        let mut params = Seq::new(alloc);
+        let mut rest = widths;
+        while let [width, behind @ ..] = rest {
+            mine.push(Dyn(free))?;
+            params.push((Dyn(free), *width))?;
+            free = free.checked_add(1).ok_or(Memory)?;
+            rest = behind;
+        }
+        Ok((Numbers { free, mine }, params))
+    }
+
+    /// Gives one value more the first number that is free.
+    fn give(&mut self) -> Result<(), Memory>
+        ensures { OnOk result (self.new ≡ record { free = self.old.free + 1; mine = self.old.mine ++ dyn self.old.free ∷ [] }) }
+    {
+        let own = Dyn(self.free);
+        self.free = self.free.checked_add(1).ok_or(Memory)?;
+        self.mine.push(own)
+    }
+
+    /// Gives what an item gives its number.
+    #[tactic(auto, using(crate::proofs::Giving::none_more))]
+    fn pass_item(&mut self, item: &Item) -> Result<(), Memory>
+        ensures { OnOk result (self.new ≡ record {
+          free = self.old.free + gives (Some item.now);
+          mine = self.old.mine ++ in_row self.old.free (gives (Some item.now));
+        }) }
+    {
+        match item {
+            Item::Operation(_, _) => Ok(()),
+            Item::Output(_, _) => Ok(()),
+            Item::Binary(_, _, _, _, _, _) => self.give(),
+            Item::Icmp(_, _, _, _, _) => self.give(),
+            Item::Convert(_, _, _, _, _) => self.give(),
+            Item::Select(_, _, _, _, _) => self.give(),
+            Item::Read(_, _) => self.give(),
+            Item::Equal(_, _, _) => self.give(),
+        }
+    }
+
+    /// Gives what a configuration's item gives its number. [`Memory`] also comes where numbers end.
+    #[tactic(auto, using(crate::proofs::Giving::none_more))]
+    pub fn pass(&mut self, node: &Node) -> Result<(), Memory>
+        ensures { OnOk result (self.new ≡ after node.now self.old) }
+    {
+        match &node.item {
+            Outcome::Goes(Some(item), _) => self.pass_item(item),
+            Outcome::Goes(None, _) => Ok(()),
+            Outcome::Exits(_) => Ok(()),
+        }
+    }
+
+    /// Goes on with the values that the Dynamic names of the configuration take to which the first link leads.
+    pub fn go_on(&mut self, alloc: Global, links: &[Link<Dyns>]) -> Result<(), Memory>
+        ensures { OnOk result (self.new ≡ record { free = self.old.free; mine = map (number_at self.old.mine) (first_label links.now) }) }
+    {
+        match links {
+            [] => {
+                self.mine = Seq::new(alloc);
+                Ok(())
+            }
+            [first, ..] => {
+                self.mine = self.taken(alloc, first.label.as_slice())?;
+                Ok(())
+            }
+        }
     }
 }

@@ -1,0 +1,4 @@
+pub mod Edges
+pub mod Jumps
+pub mod Lasts
+pub mod Onward

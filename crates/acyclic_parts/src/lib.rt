@@ -1,0 +1,4 @@
+//! Without loops no part of a lowered program jumps back to itself.
+#![tactic(auto)]
+
+pub mod laws;

@@ -51,11 +51,11 @@ swapped false false b e = cc
 
 module _ (mine : List Dyn) where
   -- arguments keep their types
-  types-kept : (args : List (Ty × Val)) → types_of (map (renamed_arg mine) args) ≡ types_of args
+  pub types-kept : (args : List (Ty × Val)) → types_of (map (renamed_arg mine) args) ≡ types_of args
   types-kept [] = refl
   types-kept (a ∷ rest) = ap (λ l. a.0 ∷ l) (types-kept rest)
 
-  uses-kept : (i : Item) (n : ℕ) → item_uses (renamed_item mine n i) ≡ map (renamed_arg mine) (item_uses i)
+  pub uses-kept : (i : Item) (n : ℕ) → item_uses (renamed_item mine n i) ≡ map (renamed_arg mine) (item_uses i)
   uses-kept (item.Binary d o flags w a b) n = refl
   uses-kept (item.Icmp d o w a b) n = refl
   uses-kept (item.Convert d o w a to) n = refl
@@ -125,7 +125,7 @@ module _ (mine : List Dyn) where
 
     -- ---- labels
 
-    uses-fit : (i : Item) → IsItem m t b ts held i → AreOperands m t b ts (item_uses i)
+    pub uses-fit : (i : Item) → IsItem m t b ts held i → AreOperands m t b ts (item_uses i)
     uses-fit (item.Binary d o flags w x y) h = (h.4, (h.5, tt))
     uses-fit (item.Icmp d o w x y) h = (h.3, (h.4, tt))
     uses-fit (item.Convert d o w x to) h = (h.3, tt)

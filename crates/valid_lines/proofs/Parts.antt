@@ -24,7 +24,7 @@ both-pass test [] ys h k = k
 both-pass test (x ∷ xs) ys h k =
     let p = and_parts (test x) (list_all test xs) h in and_from (test x) (list_all test (xs ++ ys)) p.0 (both-pass test xs ys p.1 k)
 
-flat-passes : {A B : Type 0} (test : B → Bool) (f : A → List B) (xs : List A) → list_all (λ x. list_all test (f x)) xs ≡ true → list_all test (flat_map f xs) ≡ true
+pub flat-passes : {A B : Type 0} (test : B → Bool) (f : A → List B) (xs : List A) → list_all (λ x. list_all test (f x)) xs ≡ true → list_all test (flat_map f xs) ≡ true
 flat-passes test f [] h = refl
 flat-passes test f (x ∷ xs) h =
     let p = and_parts (list_all test (f x)) (list_all (λ x. list_all test (f x)) xs) h in both-pass test (f x) (flat_map f xs) p.0 (flat-passes test f xs p.1)
@@ -33,7 +33,7 @@ module _ (test : Item → Bool) where
   abbrev pub Pass : List Line → Type 0
   Pass ls = list_all test (items_of ls) ≡ true
 
-  lines-pass : (ls ms : List Line) → Pass ls → Pass ms → Pass (ls ++ ms)
+  pub lines-pass : (ls ms : List Line) → Pass ls → Pass ms → Pass (ls ++ ms)
   lines-pass [] ms h k = k
   lines-pass (line.Item x ∷ ls) ms h k =
       let p = and_parts (test x) (list_all test (items_of ls)) h in and_from (test x) (list_all test (items_of (ls ++ ms))) p.0 (lines-pass ls ms p.1 k)

@@ -26,7 +26,7 @@ pub record ItemFits (p : Program) (i : Item) : Type 0 where
   pub types : List (Option Ty)
   pub fits : IsItem p.m p.target below types held i
 
-no-choice : (t : Target) (ts : List (Option Ty)) (c : Choice) → IsChoice t ts 0 c → ⊥
+pub no-choice : (t : Target) (ts : List (Option Ty)) (c : Choice) → IsChoice t ts 0 c → ⊥
 no-choice t ts One h = omega (arith, h)
 no-choice t ts (Branch d) h = let e = h.0 in omega (arith, e)
 no-choice t ts (Switch d w cases) h = let e = h.0 in omega (arith, e)

@@ -2,16 +2,21 @@
 use Rattle.std.proofs.Common.{◌≡◌, ℕ, zero, suc, ◌+◌, ◌<◌, ◌==◌, Bool, true, false, cond, is_some, Option, None, Some, List, [], ◌∷◌, ◌++◌, length, map, slice_get, refl, sym, ap, ◌∙◌, subst, arith}
 use Rattle.std.proofs.lemmas.Bool.{and_parts, eqb-true, true≢false}
 use Rattle.std.proofs.lemmas.List.Elements.{All-cons, All-nil}
-use Rattle.std.specs.List.{All, list_all}
+use Rattle.std.specs.List.{All, list_all, list_any}
 use Rattle.std.specs.Prelude.{◌≢◌, ◌&&◌, ◌||◌, not}
 use Rattle.ir_module.specs.declared.places.Point.{Point}
+use Rattle.ir_module.specs.declared.places.Spot.TheVariants as spot
 use Rattle.ir_module.specs.declared.tree.Block.{Block}
+use Rattle.ir_module.specs.declared.tree.Function.{Function}
+use Rattle.ir_module.specs.declared.tree.Module.{Module}
 use Rattle.ir_module.specs.declared.tree.Operand.{Operand}
 use Rattle.ir_module.specs.declared.tree.Phi.{Phi}
+use Rattle.ir_module.specs.declared.tree.Term.{Term}
+use Rattle.ir_module.specs.declared.tree.Term.TheVariants as term
 use Rattle.ir_module.specs.Edges.{edges}
 use Rattle.ir_module.specs.Numbered.{Numbered, is_written, step_in_range}
 use Rattle.ir_module.specs.Operands.{step_operands}
-use Rattle.ir_module.specs.Steps.{PhiAt, TermAt}
+use Rattle.ir_module.specs.Steps.{PhiAt, TermAt, step_of_point}
 use Rattle.ir_module.specs.Tree.{block_at, blocks_of, blocks_or_none}
 use Rattle.ir_values.specs.declared.ids.BlockId.{BlockId}
 use Rattle.ir_values.specs.declared.ids.FuncId.{FuncId}
@@ -19,6 +24,7 @@ use Rattle.ir_values.specs.declared.int.Width.{Width}
 use Rattle.ir_values.specs.declared.ty.Ty.{Ty}
 use Rattle.ir_values.specs.declared.ty.Ty.TheVariants as ty
 use Rattle.ir_values.specs.Int.{IntValue}
+use Rattle.ir_values.specs.Values.{same_int}
 use Rattle.qir_meaning.specs.Moves.{entry_for, given}
 use Rattle.kept_items.specs.declared.item.Choice.{Choice}
 use Rattle.kept_items.specs.declared.val.Val.{Val}
@@ -28,16 +34,17 @@ use Rattle.static_steps.specs.Configurations.{Bounds, Each, Rises, type_of_local
 use Rattle.static_steps.specs.Edges.{all_along, along, along_to, arrived, case_values, edges_to, edges_turn, phis_bring, targets}
 use Rattle.static_steps.specs.Settings.{Setting, at_point, move_to}
 use Rattle.static_steps.specs.Values.{Names, put_some, val_of}
-use Rattle.type_check.specs.Faults.{Typed}
+use Rattle.type_check.specs.declared.code.TypeCode.TheVariants as code
+use Rattle.type_check.specs.Faults.{Typed, keeps_rule, on_function}
 use Rattle.type_check.specs.Required.{required_qubits, required_results}
-use Rattle.type_check.specs.Rules.{entries_agree, entries_fit, entries_match, entry_blocks, is_first, keeps_first, sources, times}
+use Rattle.type_check.specs.Rules.{are_distinct, cases_differ, entries_agree, entries_fit, entries_match, entry_blocks, is_first, keeps_first, sources, times}
 use Rattle.type_check.specs.Typing.{local_type, phi_wants, same_type}
 use Rattle.type_check.proofs.Equal.{same_type-is}
-use Rattle.type_check.proofs.Facts.{StepKeeps, step-keeps}
+use Rattle.type_check.proofs.Facts.{StepKeeps, keeps as module-keeps, step-keeps}
 use Rattle.typed_runs.proofs.Blocks.{among, block-in, block-of, body-of, edge-below, first-edge, has-entry, in-sources, later-edge, leads, phi-step, times-cons}
 use Rattle.typed_runs.proofs.Numbers.{edges-in, range-at, written-at}
 use Rattle.typed_runs.proofs.Values.{WantsKeep, head-keeps, tail-keeps}
-use Rattle.valid_steps.specs.Items.{IsChoice}
+use Rattle.valid_steps.specs.Items.{IsChoice, all_differ}
 use Rattle.valid_steps.specs.Turns.{IsMove}
 use Rattle.valid_steps.proofs.Names.{put-some-each, put-some-rises}
 use Rattle.valid_steps.proofs.Operands.{Fits, operand-fits, run_bounds, wants-keep}
@@ -68,6 +75,25 @@ cases-have w (c ∷ cs) h =
     let e : ◌≡◌ {A = Ty} (ty.Int c.0.width) (ty.Int w) = same_type-is (ty.Int c.0.width) (ty.Int w) p.0 in
     let z : c.0.width ≡ w = cc in
     All-cons (λ (i : IntValue). i.width ≡ w) c.0 (case_values cs) z (cases-have w cs p.1)
+
+-- the integers of cases that differ do
+any-case : (i : IntValue) (cases : List (IntValue × BlockId)) → list_any (λ j. same_int j i) (case_values cases) ≡ list_any (λ (c : IntValue × BlockId). same_int c.0 i) cases
+any-case i [] = refl
+any-case i (c ∷ cs) = ap (λ q. same_int c.0 i || q) (any-case i cs)
+
+values-differ : (cases : List (IntValue × BlockId)) → all_differ (case_values cases) ≡ are_distinct cases
+values-differ [] = refl
+values-differ (c ∷ cs) =
+    ap (λ q. not q && all_differ (case_values cs)) (any-case c.0 cs) ∙ ap (λ q. not (list_any (λ (d : IntValue × BlockId). same_int d.0 c.0) cs) && q) (values-differ cs)
+
+pub switch-differs : (u : Ty) (a : Operand) (b : BlockId) (cases : List (IntValue × BlockId)) (t : Term) → t ≡ term.Switch u a b cases → cases_differ (TermAt t) ≡ true → all_differ (case_values cases) ≡ true
+unfolding cases_differ
+switch-differs u a b cases t e h = values-differ cases ∙ subst (λ t. cases_differ (TermAt t) ≡ true) e h
+
+-- no two cases of a switch of a module without faults are equal
+pub differ-at : (m : Module) (limit : ℕ) → Typed m limit → (p : Point) (f : Function) → slice_get m.funcs p.func.0 ≡ Some f → cases_differ (step_of_point f p) ≡ true
+unfolding keeps_rule
+differ-at m limit typed p f is = subst (λ o. on_function o (λ g. cases_differ (step_of_point g p)) ≡ true) is (module-keeps m limit typed (spot.At p) code.SwitchCase)
 
 -- no edge leads to a first block
 not-first : (es : List BlockId) (b : BlockId) → list_all (λ (t : BlockId). not (is_first t)) es ≡ true → leads b es ≡ true → b.0 ≢ 0

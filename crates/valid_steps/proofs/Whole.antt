@@ -46,7 +46,7 @@ use Rattle.static_steps.specs.Steps.{inst_turn, setting_of, static_step, step_tu
 use Rattle.static_steps.specs.Values.{val_of, vals_of}
 use Rattle.type_check.specs.Faults.{Typed}
 use Rattle.type_check.specs.Required.{required_qubits, required_results}
-use Rattle.type_check.specs.Rules.{kind_agrees, result_agrees, term_agrees}
+use Rattle.type_check.specs.Rules.{cases_differ, kind_agrees, result_agrees, term_agrees}
 use Rattle.type_check.specs.Typing.{callee_type, condition, inst_wants, result_type, same_type, term_wants}
 use Rattle.type_check.proofs.Equal.{is_void-is, same_type-is}
 use Rattle.type_check.proofs.Facts.{StepKeeps, by-step, step-here, step-keeps}
@@ -54,11 +54,11 @@ use Rattle.typed_runs.specs.Fits.{IsCode as IsCodeType}
 use Rattle.typed_runs.proofs.Blocks.{first-edge, later-edge, leads, target-edge}
 use Rattle.typed_runs.proofs.Numbers.{all-types, range-at, whole-at, written-at}
 use Rattle.typed_runs.proofs.Values.{head-keeps}
-use Rattle.valid_steps.specs.Items.{IsOperand}
+use Rattle.valid_steps.specs.Items.{IsOperand, all_differ}
 use Rattle.valid_steps.specs.Turns.{IsTurn}
 use Rattle.valid_steps.specs.Types.{dynamic_types}
 use Rattle.valid_steps.proofs.Calls.{calls-good}
-use Rattle.valid_steps.proofs.Edges.{at-edge, cases-have, count-targets, edges-good, targets-are-edges}
+use Rattle.valid_steps.proofs.Edges.{at-edge, cases-have, count-targets, differ-at, edges-good, switch-differs, targets-are-edges}
 use Rattle.valid_steps.proofs.Integers.{binary-good, convert-good, icmp-good, select-good}
 use Rattle.valid_steps.proofs.Opened.{count-types, opens}
 use Rattle.valid_steps.proofs.Operands.{AreVals, FitAll, Fits, by-func, by-int, by-more, by-one, by-three, by-two, operand-fits, operands-fit, operands-wanted, run_bounds, terms-wanted, wants-keep}
@@ -133,7 +133,7 @@ module _ (s : Setting) (entry : FuncId) (limit : ℕ) (numbered : Numbered s.m) 
   -- ---- terminators
 
   module _ (range : step_in_range s.m now.function (TermAt spot.block.term) ≡ true) (written : list_all is_written (term_operands spot.block.term) ≡ true)
-      (keeps : StepKeeps s.m K R now.function s.w.top.at (TermAt spot.block.term)) where
+      (keeps : StepKeeps s.m K R now.function s.w.top.at (TermAt spot.block.term)) (differ : cases_differ (TermAt spot.block.term) ≡ true) where
     abbrev Leads : List BlockId → Type 0
     Leads bs = (j : ℕ) (b : BlockId) → slice_get bs j ≡ Some b → leads b (edges spot.block.term) ≡ true
 
@@ -166,8 +166,9 @@ module _ (s : Setting) (entry : FuncId) (limit : ℕ) (numbered : Numbered s.m) 
         edges-good s entry limit numbered typed ts now spot range keeps (b ∷ c ∷ []) (Branch d) (λ j q g. subst (λ es. leads q es ≡ true) (sym e) (at-edge (b ∷ c ∷ []) j q g)) (refl, z))
 
     on-switch : (w : Width) (v : Val) (b : BlockId) (cases : List (IntValue × BlockId)) → edges spot.block.term ≡ map (λ (c : IntValue × BlockId). c.1) cases ++ b ∷ []
-        → list_all (λ (c : IntValue × BlockId). same_type (ty.Int c.0.width) (ty.Int w)) cases ≡ true → Is (ty.Int w) v → IsGood s entry K R ts (switch_turn s w v b cases)
-    on-switch w v b cases e widths h =
+        → list_all (λ (c : IntValue × BlockId). same_type (ty.Int c.0.width) (ty.Int w)) cases ≡ true → all_differ (case_values cases) ≡ true → Is (ty.Int w) v
+        → IsGood s entry K R ts (switch_turn s w v b cases)
+    on-switch w v b cases e widths apart h =
         by-int s.m s.t here ts (λ y. IsGood s entry K R ts (switch_turn s w y b cases)) w v h
         (λ i q.
         edges-good s entry limit numbered typed ts now spot range keeps (target_of i cases b ∷ []) One
@@ -177,7 +178,7 @@ module _ (s : Setting) (entry : FuncId) (limit : ℕ) (numbered : Numbered s.m) 
         (λ ok.
         edges-good s entry limit numbered typed ts now spot range keeps (targets cases b) (Switch d w (case_values cases))
         (λ j q g. subst (λ es. leads q es ≡ true) (targets-are-edges cases b ∙ sym e) (at-edge (targets cases b) j q g))
-        (count-targets cases b, z, cases-have w cases widths, ok))
+        (count-targets cases b, z, cases-have w cases widths, ok, apart))
         (λ no. tt))
 
     on-term : (t : Term) → spot.block.term ≡ t → IsGood s entry K R ts (term_turn s t)
@@ -193,7 +194,7 @@ module _ (s : Setting) (entry : FuncId) (limit : ℕ) (numbered : Numbered s.m) 
         by-term (term.CondBr c x y) e shape = on-val condition (val_of s.w.top.names c) _ (first-of-term condition c [] (ap term_wants e)) (λ v h. on-branch v x y (ap edges e) h)
         by-term (term.Switch (ty.Int w) a b cases) e shape =
             on-val (ty.Int w) (val_of s.w.top.names a) _ (first-of-term (ty.Int w) a [] (ap term_wants e)) (λ v h.
-            on-switch w v b cases (ap edges e) (subst (λ t. term_agrees now.function t ≡ true) e shape) h)
+            on-switch w v b cases (ap edges e) (subst (λ t. term_agrees now.function t ≡ true) e shape) (switch-differs (ty.Int w) a b cases spot.block.term e differ) h)
         by-term (term.Switch u a b cases) e shape = let q = subst (λ t. term_agrees now.function t ≡ true) e shape in cc
 
   -- ---- one step
@@ -215,7 +216,7 @@ module _ (s : Setting) (entry : FuncId) (limit : ℕ) (numbered : Numbered s.m) 
       (on-inst less i (stood ∙ z) (step-keeps s.m limit typed p f at (InstAt i) (inside ∙ z)) (subst (λ x. step_in_range s.m f x ≡ true) (inside ∙ z) range) (subst (λ x. list_all is_written (step_operands x) ≡ true) (inside ∙ z) written) (subst (λ x. calls_whole x ≡ true) (inside ∙ z) whole) (subst (λ x. flags_allowed x ≡ true) (inside ∙ z) flags)))
       (λ z.
       subst (λ x. IsGood s entry K R ts (step_turn s x)) (sym (stood ∙ z))
-      (on-term (subst (λ x. step_in_range s.m f x ≡ true) (inside ∙ z) range) (subst (λ x. list_all is_written (step_operands x) ≡ true) (inside ∙ z) written) (step-keeps s.m limit typed p f at (TermAt spot.block.term) (inside ∙ z)) spot.block.term refl))
+      (on-term (subst (λ x. step_in_range s.m f x ≡ true) (inside ∙ z) range) (subst (λ x. list_all is_written (step_operands x) ≡ true) (inside ∙ z) written) (step-keeps s.m limit typed p f at (TermAt spot.block.term) (inside ∙ z)) (subst (λ x. cases_differ x ≡ true) (inside ∙ z) (differ-at s.m limit typed p f at)) spot.block.term refl))
 
 pub keeps-configurations : (m : Module) (limit : ℕ) (t : Target) (live : Point → LocalId → Bool) (entry : FuncId) (g : Config) → Numbered m → Typed m limit → ClassTellsTypes → WordsTellTypes
     → ((f : Function) → slice_get m.funcs entry.0 ≡ Some f → IsCodeType f.ret)

@@ -1,6 +1,6 @@
 -- Which items, choices and codes stand in a lowered program of a target.
 use Rattle.std.specs.Prelude.{◌≡◌, ◌⊎◌, ℕ, ⊤, suc, ◌&&◌, ◌||◌, not, Bool, true, false, Option, None, Some, List, [], ◌∷◌, length, map, pos}
-use Rattle.std.specs.List.{All}
+use Rattle.std.specs.List.{All, list_any}
 use Rattle.ir_module.specs.declared.tree.Module.{Module}
 use Rattle.ir_values.specs.declared.class.Class.{Class}
 use Rattle.ir_values.specs.declared.class.Class.TheVariants as class
@@ -13,7 +13,7 @@ use Rattle.ir_values.specs.Calls.{class_of}
 use Rattle.ir_values.specs.ClassTypes.{HasTypes}
 use Rattle.ir_values.specs.Int.{IntValue}
 use Rattle.ir_values.specs.Types.{signature}
-use Rattle.ir_values.specs.Values.{is_bit, is_bitwise}
+use Rattle.ir_values.specs.Values.{is_bit, is_bitwise, same_int}
 use Rattle.kept_items.specs.declared.item.Choice.{Choice}
 use Rattle.kept_items.specs.declared.item.Choice.TheVariants.{One, Branch, Switch}
 use Rattle.kept_items.specs.declared.item.Code.{Code}
@@ -138,6 +138,11 @@ module _ (m : Module) (t : Target) (b : Bounds) (ts : List (Option Ty)) where
     IsSomeItem None = ⊤
     IsSomeItem (Some i) = IsItem i
 
+-- no two integers are equal
+abbrev pub all_differ : List IntValue → Bool
+all_differ [] = true
+all_differ (i ∷ is) = not (list_any (λ j. same_int j i) is) && all_differ is
+
 module _ (t : Target) (ts : List (Option Ty)) where
   -- a choice among so many successors
   abbrev pub IsChoice : ℕ → Choice → Type 0
@@ -148,6 +153,7 @@ module _ (t : Target) (ts : List (Option Ty)) where
       × IsDynamic ts (ty.Int w) d
       × All (λ (c : IntValue). c.width ≡ w) cases
       × ((has_switch t && (is_bit w || has_ints t)) ≡ true)
+      × (all_differ cases ≡ true)
 
   -- without `returns` the known code 0 alone is returned
   abbrev pub IsCode : Code → Type 0

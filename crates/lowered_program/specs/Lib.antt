@@ -1,1 +1,3 @@
 pub mod Residues
+pub mod Parameters
+pub mod code

@@ -1,0 +1,3 @@
+pub mod Counted
+pub mod Functions
+pub mod Greatest

@@ -1,0 +1,4 @@
+pub mod Begun
+pub mod Led
+pub mod Reached
+pub mod Tails

@@ -1,0 +1,4 @@
+//! A jump leads to each part with parameters of a lowered program.
+#![tactic(auto)]
+
+pub mod laws;

@@ -1,0 +1,4 @@
+//! Every module has a test that tells its live names, and just one.
+#![tactic(auto)]
+
+pub mod laws;

@@ -6,7 +6,7 @@ use Rattle.ir_module.specs.declared.tree.Function.{Function}
 use Rattle.ir_module.specs.declared.tree.Module.{Module}
 use Rattle.name_flow.specs.Walks.{IsLive}
 use Rattle.told_liveness.specs.Laws.{HasTest, IsToldOnce}
-use Rattle.told_liveness.specs.Tests.{LiveTest}
+use Rattle.told_liveness.specs.Tests.{IsLiveTest}
 use Rattle.told_liveness.proofs.Walks.{live-exactly, live_at}
 
 -- the test of a function, or none where there is no function
@@ -16,11 +16,14 @@ live_of (Some f) p x = live_at f p x
 
 -- each module has a test
 pub has-test : HasTest
-has-test m = record {
-  live = λ p x. live_of (slice_get m.funcs p.func.0) p x;
-  tells = λ f p x e. subst (λ o. (live_of o p x ≡ true) ↔ IsLive f p x) (sym e) (live-exactly f p x);
-  quiet = λ p x e. ap (λ o. live_of o p x) e;
-}
+has-test m =
+    let live : Point → LocalId → Bool = λ p x. live_of (slice_get m.funcs p.func.0) p x in (
+      live,
+      record {
+        tells = λ f p x e. subst (λ o. (live_of o p x ≡ true) ↔ IsLive f p x) (sym e) (live-exactly f p x);
+        quiet = λ p x e. ap (λ o. live_of o p x) e;
+      },
+    )
 
 -- two tests of one fact are equal
 same-test : {P : Type 0} (a b : Bool) → (a ≡ true) ↔ P → (b ≡ true) ↔ P → a ≡ b
@@ -28,14 +31,15 @@ same-test true b h k = sym (k.1 (h.0 refl))
 same-test false true h k = absurd (true≢false (sym (h.1 (k.0 refl))))
 same-test false false h k = refl
 
--- two tests answer alike at each point, for each name
-same-at : (m : Module) (a b : LiveTest m) (p : Point) (x : LocalId) → a.live p x ≡ b.live p x
-same-at m a b p x = by (slice_get m.funcs p.func.0) refl
-  where
-    by : (o : Option Function) → slice_get m.funcs p.func.0 ≡ o → a.live p x ≡ b.live p x
-    by None e = a.quiet p x e ∙ sym (b.quiet p x e)
-    by (Some f) e = same-test (a.live p x) (b.live p x) (a.tells f p x e) (b.tells f p x e)
+module _ (m : Module) (a b : Point → LocalId → Bool) (is_a : IsLiveTest m a) (is_b : IsLiveTest m b) where
+  -- two tests answer alike at each point, for each name
+  same-at : (p : Point) (x : LocalId) → a p x ≡ b p x
+  same-at p x = by (slice_get m.funcs p.func.0) refl
+    where
+      by : (o : Option Function) → slice_get m.funcs p.func.0 ≡ o → a p x ≡ b p x
+      by None e = is_a.quiet p x e ∙ sym (is_b.quiet p x e)
+      by (Some f) e = same-test (a p x) (b p x) (is_a.tells f p x e) (is_b.tells f p x e)
 
 -- so they are one
 pub told-once : IsToldOnce
-told-once m a b = λ i p x. same-at m a b p x i
+told-once m a b is_a is_b = λ i p x. same-at m a b is_a is_b p x i

@@ -13,12 +13,7 @@ TellsLive m live =
     → slice_get m.funcs p.func.0 ≡ Some f
     → (live p x ≡ true) ↔ IsLive f p x
 
--- no name is live at a point of no function
-abbrev pub IsQuiet : Module → (Point → LocalId → Bool) → Type 0
-IsQuiet m live = (p : Point) (x : LocalId) → slice_get m.funcs p.func.0 ≡ None → live p x ≡ false
-
--- a test of the names that are live in a module
-pub record LiveTest (m : Module) : Type 0 where
-  pub live : Point → LocalId → Bool
+-- a test that tells the live names at each point of the module, and none at points of no function
+pub record IsLiveTest (m : Module) (live : Point → LocalId → Bool) : Type 0 where
   pub tells : TellsLive m live
-  pub quiet : IsQuiet m live
+  pub quiet : (p : Point) (x : LocalId) → slice_get m.funcs p.func.0 ≡ None → live p x ≡ false

@@ -1,5 +1,5 @@
 -- Flows beside the functions that they are of.
-use Rattle.std.proofs.Common.{◌≡◌, ◌↔◌, ⊎_elim, ℕ, zero, suc, ◌+◌, ◌<◌, true, Option, None, Some, List, [], ◌∷◌, ◌++◌, length, map, take, slice_get, refl, sym, ap, ◌∙◌, subst, IsSome, IsSomeAnd, IfSome, arith}
+use Rattle.std.proofs.Common.{◌≡◌, ◌↔◌, ⊎_elim, ℕ, zero, suc, ◌+◌, ◌<◌, true, false, Option, None, Some, List, [], ◌∷◌, ◌++◌, length, map, take, slice_get, refl, sym, ap, ◌∙◌, subst, IsSome, IsSomeAnd, IfSome, arith}
 use Rattle.std.proofs.Math.Seq.{take-length}
 use Rattle.std.proofs.lemmas.Option.{slice_get_cases}
 use Rattle.ir_values.specs.declared.class.Class.{Class}
@@ -17,7 +17,8 @@ use Rattle.name_flow.specs.Tables.{IsFlowOf, HasBody}
 use Rattle.name_flow.specs.Uses.{step_reads}
 use Rattle.name_flow.specs.Walks.{IsLive, IsWalk, ReadsFirst, successors}
 use Rattle.std.specs.List.{Contains}
-use Rattle.admission.specs.Live.{flow_answer, live_in, TellsLive}
+use Rattle.told_liveness.specs.Tests.{IsLiveTest, TellsLive}
+use Rattle.admission.specs.Live.{flow_answer, live_in}
 use Rattle.admission.specs.code.Tables.{IsFlowOfBody, AreFlowsOf}
 
 some-inj : {A : Type 0} (x y : A) → Some x ≡ Some y → x ≡ y
@@ -81,13 +82,29 @@ no-walk f p x e l = by l.walk l.follows l.reads
 no-step : (f : Function) (p : Point) → f.blocks ≡ None → step_of_point f p ≡ NoStep
 no-step f p e = ap (λ bs. step_in (blocks_at bs p.block) p.index) e
 
-pub tells_live : (m : Module) (os : List (Option Flow)) → AreFlowsOf m.funcs os → TellsLive m (live_in (record { tree = m; flows = os }))
+tells_live : (m : Module) (os : List (Option Flow)) → AreFlowsOf m.funcs os → TellsLive m (live_in (record { tree = m; flows = os }))
 unfolding live_in
 tells_live m os h f p x e = let q = flow_at m.funcs os p.func.0 f h e in subst (λ (o : Option (Option Flow)). (flow_answer o p x ≡ true) ↔ IsLive f p x) (sym q.is) (by q.flow q.fits)
   where
     by : (o : Option Flow) → IsFlowOfBody f o → (flow_answer (Some o) p x ≡ true) ↔ IsLive f p x
     by None k = (λ b. cc, λ l. absurd (no-walk f p x (no-step f p k) l))
     by (Some flow) k = k p x
+
+-- behind the functions stands no flow
+none-behind : (fs : List Function) (os : List (Option Flow)) (i : ℕ) → AreFlowsOf fs os → slice_get fs i ≡ None → slice_get os i ≡ None
+none-behind [] [] i h e = refl
+none-behind [] (o ∷ os) i h e = absurd h
+none-behind (f ∷ fs) [] i h e = absurd h
+none-behind (f ∷ fs) (o ∷ os) zero h e = cc
+none-behind (f ∷ fs) (o ∷ os) (suc i) h e = none-behind fs os i h.1 e
+
+quiet_elsewhere : (m : Module) (os : List (Option Flow)) → AreFlowsOf m.funcs os → (p : Point) (x : LocalId) → slice_get m.funcs p.func.0 ≡ None → live_in (record { tree = m; flows = os }) p x ≡ false
+unfolding live_in
+quiet_elsewhere m os h p x e = ap (λ o. flow_answer o p x) (none-behind m.funcs os p.func.0 h e)
+
+-- the flows tell the live names of the module
+pub is_live_test : (m : Module) (os : List (Option Flow)) → AreFlowsOf m.funcs os → IsLiveTest m (live_in (record { tree = m; flows = os }))
+is_live_test m os h = record { tells = tells_live m os h; quiet = quiet_elsewhere m os h }
 
 -- the flow of a function with a body
 pub record BodyFlow (m : Module) (os : List (Option Flow)) (g : FuncId) : Type 0 where

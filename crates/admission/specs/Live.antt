@@ -1,12 +1,9 @@
 -- The names that are live at the points of a whole module.
-use Rattle.std.specs.Prelude.{◌≡◌, ◌↔◌, Bool, true, false, Option, None, Some, slice_get}
+use Rattle.std.specs.Prelude.{Bool, false, Option, None, Some, slice_get}
 use Rattle.ir_values.specs.declared.ids.LocalId.{LocalId}
 use Rattle.ir_module.specs.declared.places.Point.{Point}
-use Rattle.ir_module.specs.declared.tree.Function.{Function}
-use Rattle.ir_module.specs.declared.tree.Module.{Module}
 use Rattle.name_flow.specs.declared.flow.Flow.{Flow}
 use Rattle.name_flow.specs.Tables.{live}
-use Rattle.name_flow.specs.Walks.{IsLive}
 use Rattle.admission.specs.Admitted.{CheckedModule}
 
 -- no name is live where there is no flow
@@ -18,10 +15,3 @@ flow_answer (Some (Some flow)) p x = live flow p x
 -- the answer of the flow of the point's function
 unfoldable pub live_in : CheckedModule → Point → LocalId → Bool
 live_in c p x = flow_answer (slice_get c.flows p.func.0) p x
-
--- the test tells the names that some walk from a point reads before it defines them
-abbrev pub TellsLive : Module → (Point → LocalId → Bool) → Type 0
-TellsLive m live =
-    (f : Function) (p : Point) (x : LocalId)
-    → slice_get m.funcs p.func.0 ≡ Some f
-    → (live p x ≡ true) ↔ IsLive f p x

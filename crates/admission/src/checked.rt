@@ -2,9 +2,10 @@
 ghost use Rattle.std.specs.Prelude.{◌≡◌, ◌<◌, length, map, slice_get, IfSome};
 ghost use Rattle.ir_module.specs.Classes.{class_of_function};
 ghost use Rattle.name_flow.specs.Tables.{HasBody, IsFlowOf};
+ghost use Rattle.told_liveness.specs.Tests.{IsLiveTest};
 ghost use Rattle.type_check.specs.Required.{required_qubits, required_results};
 ghost use Rattle.admission.specs.Admitted.{IsAdmitted, IsEntryOf, greatest_required};
-ghost use Rattle.admission.specs.Live.{TellsLive, live_in};
+ghost use Rattle.admission.specs.Live.{live_in};
 ghost use Rattle.admission.specs.code.Tables.{AreTablesOf};
 
 use crate::tables::Tables;
@@ -48,7 +49,7 @@ impl Checked {
     pub fn module(&self) -> &Module
         ensures module { result.now ≡ self.now.tree }
         ensures admitted { IsAdmitted self.now.tree }
-        ensures live { TellsLive self.now.tree (live_in self.now) }
+        ensures live { IsLiveTest self.now.tree (live_in self.now) }
     {
         &self.tree
     }

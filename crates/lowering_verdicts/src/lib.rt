@@ -1,0 +1,4 @@
+//! Lowering has exactly one answer.
+#![tactic(auto)]
+
+pub mod laws;

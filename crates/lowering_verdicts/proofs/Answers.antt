@@ -3,7 +3,7 @@ use Rattle.std.proofs.Common.{◌≡◌, ◌∙◌, ℕ, Bool, true, false, Opti
 use Rattle.std.specs.List.{All}
 use Rattle.std.specs.Prelude.{is_some, slice_get}
 use Rattle.std.proofs.lemmas.Option.{get_or_from_slice_get, same_Some, slice_get_within}
-use mathlib.Core.Logic.{◌⊎◌, inl, inr}
+use mathlib.Core.Logic.{inl, inr}
 use Rattle.admission.proofs.Entries.{has_entry}
 use Rattle.ir_module.specs.declared.places.Point.{Point}
 use Rattle.ir_module.specs.declared.tree.Module.{Module}
@@ -15,12 +15,11 @@ use Rattle.ir_values.specs.declared.ty.Ty.{Ty}
 use Rattle.kept_items.specs.declared.target.Kind.{Kind}
 use Rattle.kept_items.specs.declared.target.Target.{Target}
 use Rattle.lowered_program.specs.Residues.{residue_of}
-use Rattle.path_search.specs.declared.reason.Reason.{Reason}
 use Rattle.path_search.specs.Explored.{Explored}
 use Rattle.path_search.specs.Laws.{HasOneVerdict}
 use Rattle.path_search.specs.Paths.{Search}
 use Rattle.path_search.specs.Verdict.{Refuses}
-use Rattle.program_verdicts.specs.Laws.{HasVerdict, IsForbidden, IsListedOnce, IsPermitted, KeepsConfigurations}
+use Rattle.program_verdicts.specs.Laws.{HasVerdict, IsListedOnce, KeepsConfigurations}
 use Rattle.residue.specs.Printed.{printed}
 use Rattle.static_steps.specs.declared.config.Config.{Config}
 use Rattle.static_steps.specs.declared.turn.Turn.{Turn}
@@ -29,28 +28,22 @@ use Rattle.static_steps.specs.Configurations.{IsConfiguration}
 use Rattle.static_steps.specs.Steps.{start_of}
 use Rattle.type_check.specs.Faults.{Typed}
 use Rattle.type_check.specs.Required.{required_qubits, required_results}
-use Rattle.fused_parts.specs.Nodes.{Node}
+use Rattle.told_liveness.specs.Laws.{HasTest, IsToldOnce}
 use Rattle.unroller.specs.Programs.{Carries, IsReached, LeadOn, Program, search_of, step_of}
-use Rattle.unroller.specs.Refusals.{IsRefused, kind_of}
+use Rattle.unroller.specs.Refusals.{kind_of}
 use Rattle.valid_steps.specs.Laws.{AdmittedModulesStart, StepsKeepConfigurations, entry_id}
 use Rattle.valid_steps.specs.Turns.{IsMove, IsTurn}
 use Rattle.valid_steps.specs.Types.{dynamic_types}
-use Rattle.sound_lowering.specs.Programs.{IsLiveTest, IsLowered, IsNotLowered, number_of_entry, program_by, source_limit}
+use Rattle.sound_lowering.specs.Programs.{IsLowered, IsNotLowered, number_of_entry, program_by, source_limit}
 use Rattle.lowering_verdicts.specs.Laws.{HasAnswer, HasOneAnswer}
 
 abbrev pub Test : Type 0
 Test = Point → LocalId → Bool
 
-abbrev pub OneTest : Type 0
-OneTest = (m : Module) (live other : Test) → IsLiveTest m live → IsLiveTest m other → live ≡ other
-
-abbrev pub SomeTest : Type 0
-SomeTest = (m : Module) → (live : Test) × IsLiveTest m live
-
 abbrev pub OneVerdict : Type 0
 OneVerdict = (s : Search Config Kind) → HasOneVerdict s
 
-module _ (one-test : OneTest) (listed : IsListedOnce) (verdict : OneVerdict) (m : Module) (t : Target) (budget : ℕ) where
+module _ (one-test : IsToldOnce) (listed : IsListedOnce) (verdict : OneVerdict) (m : Module) (t : Target) (budget : ℕ) where
   same-module : (l k : Module) → IsLowered m t budget l → IsLowered m t budget k → l ≡ k
   same-module l k a b =
       let live : a.live ≡ b.live = one-test m a.live b.live a.is_test b.is_test in
@@ -124,7 +117,7 @@ module _ (starts : AdmittedModulesStart) (steps : StepsKeepConfigurations) (m : 
         leads_on = λ g reached. turn-leads (program_by m t live) g (dynamic_types m g) (step_of (program_by m t live) g) (fits e is g reached);
       }
 
-pub answer : SomeTest → HasVerdict → AdmittedModulesStart → StepsKeepConfigurations → (m : Module) (t : Target) (budget : ℕ) → Numbered m → Typed m source_limit → HasAnswer m t budget
+pub answer : HasTest → HasVerdict → AdmittedModulesStart → StepsKeepConfigurations → (m : Module) (t : Target) (budget : ℕ) → Numbered m → Typed m source_limit → HasAnswer m t budget
 answer some verdict starts steps m t budget numbered typed =
     let test = some m in
     let entry = entry-there m numbered typed in

@@ -1,13 +1,12 @@
 -- Lowering has exactly one answer.
-use Rattle.std.specs.Prelude.{◌≡◌, ◌⊎◌, ℕ, Bool}
+use Rattle.std.specs.Prelude.{◌≡◌, ◌⊎◌, ℕ}
 use Rattle.ir_module.specs.declared.places.Point.{Point}
 use Rattle.ir_module.specs.declared.tree.Module.{Module}
 use Rattle.ir_module.specs.Numbered.{Numbered}
-use Rattle.ir_values.specs.declared.ids.LocalId.{LocalId}
 use Rattle.kept_items.specs.declared.target.Kind.{Kind}
 use Rattle.kept_items.specs.declared.target.Target.{Target}
 use Rattle.type_check.specs.Faults.{Typed}
-use Rattle.sound_lowering.specs.Programs.{IsLiveTest, IsLowered, IsNotLowered, source_limit}
+use Rattle.sound_lowering.specs.Programs.{IsLowered, IsNotLowered, source_limit}
 
 -- at most one: a module has one lowered module, or one instruction that decides against it, for one kind
 pub record HasOneAnswer (m : Module) (t : Target) (budget : ℕ) : Type 0 where

@@ -1,5 +1,5 @@
 -- The program that a module is for a target.
-use Rattle.std.specs.Prelude.{◌≡◌, ℕ, Bool, true, false, Option, None, Some, List, slice_get}
+use Rattle.std.specs.Prelude.{◌≡◌, ℕ, Bool, Option, None, Some, List}
 use Rattle.ir_module.specs.declared.places.Point.{Point}
 use Rattle.ir_module.specs.declared.tree.Module.{Module}
 use Rattle.ir_module.specs.Entry.{Entry, entry_of}
@@ -11,7 +11,7 @@ use Rattle.path_search.specs.Explored.{Explored}
 use Rattle.qir_meaning.specs.Naming.{fixed_naming}
 use Rattle.backend_api.specs.Naming.{Naming}
 use Rattle.residue.specs.Printed.{printed}
-use Rattle.runs_follow_steps.specs.Describes.{TellsLive}
+use Rattle.told_liveness.specs.Tests.{IsLiveTest}
 use Rattle.type_check.specs.Required.{required_qubits, required_results}
 use Rattle.fused_parts.specs.Nodes.{Node}
 use Rattle.unroller.specs.Programs.{Carries, Program, search_of}
@@ -31,12 +31,7 @@ abbrev pub number_of_entry : Option Entry → FuncId
 number_of_entry None = record { 0 = 0 }
 number_of_entry (Some e) = record { 0 = e.number }
 
--- a test that tells the live names at each point of the module, and none elsewhere
-pub record IsLiveTest (m : Module) (live : Point → LocalId → Bool) : Type 0 where
-  pub tells : TellsLive m live
-  pub quiet : (p : Point) (x : LocalId) → slice_get m.funcs p.func.0 ≡ None → live p x ≡ false
-
--- the module for a target, with such a test
+-- the module for a target, with a test that tells its live names
 abbrev pub program_by : Module → Target → (Point → LocalId → Bool) → Program
 program_by m t live = record {
   m = m;

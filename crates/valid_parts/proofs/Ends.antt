@@ -31,9 +31,9 @@ use Rattle.fused_parts.specs.Parts.{case_jumps, choice_tail, code_val, exit_tail
 use Rattle.lowered_runs.proofs.Joined.{all-at}
 use Rattle.valid_steps.specs.Items.{IsChoice, IsCode}
 use Rattle.valid_steps.specs.Types.{IsDynamic}
-use Rattle.valid_parts.proofs.Fits.{Fit, dynamic-has, int_type, same-width}
-use Rattle.valid_parts.proofs.Good.{JumpGood, JumpsGood, TailGood, all_have}
-use Rattle.valid_parts.proofs.Rows.{same-number}
+use Rattle.scoped_parts.proofs.Fits.{Fit, dynamic-has, int_type, same-width}
+use Rattle.scoped_parts.proofs.Good.{JumpGood, JumpsGood, TailGood, all_have}
+use Rattle.scoped_parts.proofs.Rows.{same-number}
 
 -- the first values stay where more follow
 early : {A B : Type 0} (f : A → B) (xs ys : List A) (i : ℕ) (y : B) → slice_get (map f xs) i ≡ Some y → slice_get (map f (xs ++ ys)) i ≡ Some y

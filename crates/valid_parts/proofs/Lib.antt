@@ -1,13 +1,6 @@
 pub mod Begins
 pub mod Ends
-pub mod Fits
-pub mod Good
 pub mod Made
-pub mod Operations
-pub mod Rows
 pub mod Rules
 pub mod Scopes
 pub mod Steps
-pub mod Typed
-pub mod Walk
-pub mod Widths

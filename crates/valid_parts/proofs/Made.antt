@@ -25,13 +25,13 @@ use Rattle.valid_steps.specs.Types.{Fill, dynamic_types}
 use Rattle.valid_parts.specs.Laws.{IsMadeFrom}
 use Rattle.valid_parts.proofs.Begins.{LeadsOn, begun, fuses, leads-on, one-target}
 use Rattle.valid_parts.proofs.Ends.{IsIn, SharedStands, choice-good, exit-good, stops}
-use Rattle.valid_parts.proofs.Fits.{Fit, args-fit, int_type}
-use Rattle.valid_parts.proofs.Good.{JumpGood, PartsGood, TailGood}
-use Rattle.valid_parts.proofs.Rows.{IsRow}
+use Rattle.scoped_parts.proofs.Fits.{Fit, args-fit, int_type}
+use Rattle.scoped_parts.proofs.Good.{JumpGood, PartsGood, TailGood}
+use Rattle.scoped_parts.proofs.Rows.{IsRow}
 use Rattle.valid_parts.proofs.Steps.{Stepped, exits, goes, item-says, link-says, links-agree, stepped}
-use Rattle.valid_parts.proofs.Typed.{item-has}
-use Rattle.valid_parts.proofs.Walk.{AllHold, At, FirstAt, Hands, ItemHolds, parts-give, parts-good, types-given, widths_given}
-use Rattle.valid_parts.proofs.Widths.{as-many-widths, typed-widths}
+use Rattle.scoped_parts.proofs.Typed.{item-has}
+use Rattle.scoped_parts.proofs.Walk.{AllHold, At, FirstAt, Hands, ItemHolds, parts-give, parts-good, types-given, widths_given}
+use Rattle.scoped_parts.proofs.Widths.{as-many-widths, typed-widths}
 
 get-last : (ps : List Part) (one : Part) (k : ℕ) → k ≡ length ps → slice_get (ps ++ one ∷ []) k ≡ Some one
 get-last [] one zero e = refl

@@ -30,9 +30,9 @@ use Rattle.unroller.specs.Programs.{Program}
 use Rattle.valid_lines.specs.Laws.{AreValid, ItemsAreValid}
 use Rattle.valid_lines.proofs.Parts.{both-pass}
 use Rattle.valid_parts.specs.Laws.{IsMadeFrom}
-use Rattle.valid_parts.proofs.Good.{JumpGood, JumpsGood, PartGood, PartsGood, TailGood, all_have}
+use Rattle.scoped_parts.proofs.Good.{JumpGood, JumpsGood, PartGood, PartsGood, TailGood, all_have}
 use Rattle.valid_parts.proofs.Made.{good, row}
-use Rattle.valid_parts.proofs.Rows.{row-differs}
+use Rattle.scoped_parts.proofs.Rows.{row-differs}
 use Rattle.valid_parts.proofs.Scopes.{AllIncluded, Includes, all-included, args-kept, is-within, items-within, parts-have, uses-within}
 
 -- ---- tests of all of a list

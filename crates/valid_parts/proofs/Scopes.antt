@@ -14,8 +14,8 @@ use Rattle.residue.specs.declared.parts.Part.{Part}
 use Rattle.residue.specs.Scopes.{item_gives, item_uses, items_of, param_gives, part_gives, part_uses, tail_uses, width_in}
 use Rattle.residue.specs.Valid.{args_fit, is_of_width, is_within, items_within, val_has}
 use Rattle.valid_lines.proofs.Parts.{both-pass}
-use Rattle.valid_parts.proofs.Good.{ItemsGood, PartsGood, all_have, given}
-use Rattle.valid_parts.proofs.Rows.{IsRow, behind-others, in-front}
+use Rattle.scoped_parts.proofs.Good.{ItemsGood, PartsGood, all_have, given}
+use Rattle.scoped_parts.proofs.Rows.{IsRow, behind-others, in-front}
 
 -- a width that is found in the one is found in the other
 abbrev pub Includes : List (ℕ × Width) → List (ℕ × Width) → Type 0

@@ -18,9 +18,9 @@ use Rattle.fused_parts.specs.Parts.{Rest, after, first_label, first_of, freed, i
 use Rattle.fused_parts.specs.Ranks.{goes_on}
 use Rattle.valid_steps.specs.Items.{gives_some}
 use Rattle.valid_steps.specs.Types.{Fill}
-use Rattle.valid_parts.proofs.Fits.{Fit, fit-append, fit-behind, fit-filled, fit-more, fit-new, int_type}
-use Rattle.valid_parts.proofs.Good.{ItemsGood, PartsGood, RestGood, TailGood, all_have, given, items-of-append, on-begun, on-joined, parts-append}
-use Rattle.valid_parts.proofs.Rows.{IsRow, numbered_width, row-append, row-of-is, row-of-length, row-of-params, row_of}
+use Rattle.scoped_parts.proofs.Fits.{Fit, fit-append, fit-behind, fit-filled, fit-more, fit-new, int_type}
+use Rattle.scoped_parts.proofs.Good.{ItemsGood, PartsGood, RestGood, TailGood, all_have, given, items-of-append, on-begun, on-joined, parts-append}
+use Rattle.scoped_parts.proofs.Rows.{IsRow, numbered_width, row-append, row-of-is, row-of-length, row-of-params, row_of}
 
 -- ---- the item of a node, and what it gives
 

@@ -13,7 +13,7 @@ use Rattle.residue.specs.Scopes.{width_in}
 use Rattle.residue.specs.Valid.{args_fit, is_of_width, val_has}
 use Rattle.fused_parts.specs.Parts.{dyn, in_row, number_at, with_widths}
 use Rattle.valid_steps.specs.Types.{Fill}
-use Rattle.valid_parts.proofs.Rows.{IsRow, behind-others, in-front, row_of, row-of-is, same-number}
+use Rattle.scoped_parts.proofs.Rows.{IsRow, behind-others, in-front, row_of, row-of-is, same-number}
 
 -- the type of a Dynamic value of a width
 abbrev pub int_type : Width → Option Ty

@@ -30,8 +30,8 @@ use Rattle.static_steps.specs.Configurations.{Bounds, IsValue}
 use Rattle.fused_parts.specs.Parts.{renamed, renamed_arg, renamed_item}
 use Rattle.valid_steps.specs.Items.{AreOperands, IsItem, IsOperand, permits_record}
 use Rattle.valid_steps.proofs.Operands.{never-varies}
-use Rattle.valid_parts.proofs.Fits.{Fit, dynamic-has, int_type, same-width}
-use Rattle.valid_parts.proofs.Operations.{operation-operands}
+use Rattle.scoped_parts.proofs.Fits.{Fit, dynamic-has, int_type, same-width}
+use Rattle.scoped_parts.proofs.Operations.{operation-operands}
 
 -- no type of functions
 abbrev NoFunction : Ty → Type 0

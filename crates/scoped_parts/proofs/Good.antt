@@ -16,7 +16,7 @@ use Rattle.residue.specs.declared.parts.Tail.{Tail}
 use Rattle.residue.specs.Scopes.{item_gives, item_uses, items_of, jumps, param_gives, part_gives, tail_uses}
 use Rattle.residue.specs.Valid.{all_agree, args_fit, val_has}
 use Rattle.fused_parts.specs.Parts.{Rest, joined}
-use Rattle.valid_parts.proofs.Rows.{IsRow, row-append}
+use Rattle.scoped_parts.proofs.Rows.{IsRow, row-append}
 
 -- what items give
 abbrev pub given : List Item → List (ℕ × Width)

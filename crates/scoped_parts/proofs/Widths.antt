@@ -20,7 +20,7 @@ use Rattle.static_steps.specs.Works.{dynamics_of}
 use Rattle.fused_parts.specs.Nodes.{frame_widths, frames_widths, name_widths, one_width, width_of, widths_of}
 use Rattle.valid_steps.specs.Types.{dynamic_types, type_if_dynamic, types_of_frames, types_of_names}
 use Rattle.valid_steps.proofs.Opened.{count-types}
-use Rattle.valid_parts.proofs.Fits.{int_type}
+use Rattle.scoped_parts.proofs.Fits.{int_type}
 
 -- what may vary is an integer
 integer : (t : Target) (u : Ty) → MayVary t u → Some u ≡ int_type (width_of (Some u))

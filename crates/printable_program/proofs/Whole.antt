@@ -1,5 +1,5 @@
 -- The pieces of the lowered program can be printed.
-use Rattle.std.proofs.Common.{◌≡◌, ℕ, ◌^◌, ◌<◌, true, ◌&&◌, None, Some, List, [], ◌∷◌, map, slice_get, flat_map, refl, sym, ap, ◌∙◌}
+use Rattle.std.proofs.Common.{◌≡◌, ℕ, ◌^◌, true, ◌&&◌, None, Some, List, [], ◌∷◌, map, slice_get, flat_map, refl, sym, ap, ◌∙◌}
 use Rattle.std.proofs.lemmas.Bool.{and_parts}
 use Rattle.std.proofs.lemmas.List.Folds.{list_all-map}
 use Rattle.std.specs.List.{list_all}
@@ -29,6 +29,7 @@ use Rattle.printable_values.specs.Values.{name_prints, val_prints}
 use Rattle.printable_steps.specs.Laws.{StepsKeepPrintable}
 use Rattle.printable_steps.specs.Turns.{choice_prints, item_prints}
 use Rattle.printable_residue.specs.Pieces.{HasPrintablePieces, PartsAreReached}
+use Rattle.printable_program.specs.Laws.{AreSmall}
 use Rattle.printable_program.proofs.Nodes.{outcome-prints, outcome_prints}
 use Rattle.printable_program.proofs.Parts.{arguments-print, item-prints, outcome-tail-prints, tail_prints, uses-print}
 
@@ -64,14 +65,14 @@ module _ (p : Program) (budget : ℕ) (nodes : List Node) (explored : Explored (
         all-both val_prints (map (λ (a : Ty × Val). a.1) (uses_of r)) (flat_map (λ (q : Part). jump_args q.tail) r.parts)
         (list_all-map val_prints (λ (a : Ty × Val). a.1) (uses_of r) ∙ uses-print r.parts items tails) (arguments-print r.parts tails)
 
-    pub has-pieces : r.all_qubits < 2 ^ 64 → r.all_results < 2 ^ 64 → PartsAreReached r.parts → HasPrintablePieces r
-    has-pieces qubits results reached = record {
+    pub has-pieces : AreSmall r → PartsAreReached r.parts → HasPrintablePieces r
+    has-pieces small reached = record {
       entry = (and_parts (name_fits entry.name) _ (and_parts (names_fit entry) (nat_lt entry.params (2 ^ 32)) (passes-at (λ (f : Function). names_fit f && nat_lt f.params (2 ^ 32)) p.m.funcs p.entry.0 entry printable.names is)).0).0;
       attributes = passes-at (λ (f : Function). list_all attr_fits f.attrs) p.m.funcs p.entry.0 entry printable.attributes is;
       constants = printable.constants;
       operations = names-print (all_items r) items;
       values = values;
-      qubits = qubits;
-      results = results;
+      qubits = small.qubits;
+      results = small.results;
       reached = reached;
     }

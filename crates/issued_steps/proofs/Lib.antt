@@ -1,0 +1,5 @@
+pub mod Calls
+pub mod Instructions
+pub mod Terms
+pub mod Turns
+pub mod Whole

@@ -1,0 +1,12 @@
+pub mod Cases
+pub mod Counts
+pub mod Lists
+pub mod Names
+pub mod Nodes
+pub mod Operands
+pub mod Permits
+pub mod Program
+pub mod Reached
+pub mod Returns
+pub mod Uses
+pub mod Widths

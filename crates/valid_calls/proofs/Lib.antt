@@ -1,0 +1,7 @@
+pub mod Agree
+pub mod Issued
+pub mod Items
+pub mod Named
+pub mod Small
+pub mod Sources
+pub mod Whole

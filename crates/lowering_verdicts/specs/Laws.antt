@@ -1,11 +1,13 @@
 -- Lowering has exactly one answer.
 use Rattle.std.specs.Prelude.{◌≡◌, ◌⊎◌, ℕ}
 use Rattle.ir_module.specs.declared.places.Point.{Point}
+use Rattle.ir_module.specs.declared.places.Spot.TheVariants as spot
 use Rattle.ir_module.specs.declared.tree.Module.{Module}
 use Rattle.ir_module.specs.Numbered.{Numbered}
 use Rattle.kept_items.specs.declared.target.Kind.{Kind}
 use Rattle.kept_items.specs.declared.target.Target.{Target}
 use Rattle.type_check.specs.Faults.{Typed}
+use Rattle.type_check.specs.Told.{HasPlace}
 use Rattle.sound_lowering.specs.Programs.{IsLowered, IsNotLowered, source_limit}
 
 -- at most one: a module has one lowered module, or one instruction that decides against it, for one kind
@@ -27,3 +29,12 @@ LoweringHasOneAnswer = (m : Module) (t : Target) (budget : ℕ) → HasOneAnswer
 
 abbrev pub LoweringHasAnAnswer : Type 0
 LoweringHasAnAnswer = (m : Module) (t : Target) (budget : ℕ) → Numbered m → Typed m source_limit → HasAnswer m t budget
+
+-- an instruction that decides against an admitted module has a place in its text
+abbrev pub RefusalsHavePlaces : Type 0
+RefusalsHavePlaces =
+    (m : Module) (t : Target) (budget : ℕ) (at : Point) (kind : Kind)
+    → Numbered m
+    → Typed m source_limit
+    → IsNotLowered m t budget at kind
+    → HasPlace m (spot.At at)

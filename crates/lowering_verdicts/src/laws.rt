@@ -1,6 +1,6 @@
 //! Laws of the answers of lowering. What each function ensures is the law; its body only cites the laws that it
 //! rests on.
-ghost use Rattle.lowering_verdicts.specs.Laws.{LoweringHasAnAnswer, LoweringHasOneAnswer};
+ghost use Rattle.lowering_verdicts.specs.Laws.{LoweringHasAnAnswer, LoweringHasOneAnswer, RefusalsHavePlaces};
 
 use kept_items::Kind;
 use path_search::laws::the_verdict_is_one;
@@ -25,6 +25,14 @@ pub fn lowering_has_an_answer()
 {
     live_names_can_be_told();
     every_program_has_a_verdict();
+    admitted_modules_start();
+    steps_keep_configurations();
+}
+
+/// The instruction that decides against an admitted module has a place in its text.
+pub fn refusals_have_places()
+    ensures { RefusalsHavePlaces }
+{
     admitted_modules_start();
     steps_keep_configurations();
 }

@@ -35,7 +35,7 @@ module _ (p : Program) (budget : ℕ) (keeps : KeepsConfigurations p) where
   onward-reached g (Bad kind) lead i h e = absurd (none-some h e)
   onward-reached g Lost lead i h e = absurd lead
 
-  reached-from : (q : List ℕ) (g h : Config) → IsReached p g → end_from s g q ≡ Some h → IsReached p h
+  pub reached-from : (q : List ℕ) (g h : Config) → IsReached p g → end_from s g q ≡ Some h → IsReached p h
   reached-from [] g h reached e = subst (IsReached p) (one_end s g g h [] (end_none s g) e) reached
   reached-from (i ∷ q) g h reached e =
       let b = end_cons s g h i q e in

@@ -1,0 +1,5 @@
+pub mod Budget
+pub mod Entries
+pub mod Returned
+pub mod Shared
+pub mod Words

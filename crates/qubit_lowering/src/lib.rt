@@ -1,0 +1,8 @@
+//! The lowered program of an admitted module, or the first instruction that can't be lowered.
+#![tactic(auto)]
+
+mod codes;
+mod lowering;
+mod sources;
+
+pub use lowering::lower_residue;

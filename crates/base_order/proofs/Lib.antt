@@ -1,0 +1,5 @@
+pub mod Joined
+pub mod Linear
+pub mod Phases
+pub mod Row
+pub mod Whole

@@ -28,7 +28,8 @@ use Rattle.type_check.specs.Told.{HasPlace}
 use Rattle.type_check.proofs.Spots.{Among, among-left, among-right}
 use Rattle.valid_steps.specs.Laws.{AdmittedModulesStart, StepsKeepConfigurations}
 use Rattle.sound_lowering.specs.Programs.{IsNotLowered, program_by, source_limit}
-use Rattle.lowering_verdicts.proofs.Answers.{entry-there, keeps}
+use Rattle.sound_lowering.proofs.Keeping.{entry-there}
+use Rattle.lowering_verdicts.proofs.Answers.{keeps}
 
 -- ---- the points of a module are among its spots
 

@@ -1,5 +1,4 @@
 pub mod Budget
 pub mod Entries
 pub mod Returned
-pub mod Shared
 pub mod Words

@@ -1,13 +1,11 @@
 -- The printed module's required numbers are within its limit: no configuration has more allocations or returned results than there are
 -- configurations.
 use Rattle.std.proofs.Common.{◌≡◌, ◌∙◌, ℕ, zero, suc, ◌+◌, ◌<◌, ◌≤◌, Bool, true, false, Option, None, Some, List, [], ◌∷◌, length, map, refl, sym, ap, subst, arith}
-use Rattle.std.specs.Prelude.{◌^◌, ◌&&◌, if◌then◌else◌, min, nat_le, option_and_then, slice_get, unwrap_or}
+use Rattle.std.specs.Prelude.{◌&&◌, if◌then◌else◌, nat_le, option_and_then, slice_get, unwrap_or}
 use Rattle.std.proofs.lemmas.Option.{none-some, same_Some}
 use Rattle.ir_module.specs.declared.tree.Attr.{Attr}
-use Rattle.ir_module.specs.declared.tree.Function.{Function}
 use Rattle.ir_module.specs.declared.tree.Module.{Module}
 use Rattle.ir_module.specs.Entry.{Entry, attribute_of, entry_of}
-use Rattle.path_search.specs.declared.node.Visited.{Visited}
 use Rattle.path_search.specs.Explored.{Explored, node}
 use Rattle.path_search.specs.Paths.{onward}
 use Rattle.path_search.proofs.Frontier.{get_within}

@@ -1,6 +1,6 @@
 -- What a lowered module keeps, where the residue that it is printed from is valid.
-use Rattle.std.proofs.Common.{◌≡◌, ◌∙◌, ℕ, ◌+◌, ◌<◌, ◌≤◌, List, length, refl, sym, ap, subst, arith}
-use Rattle.std.specs.Prelude.{◌^◌, Bool}
+use Rattle.std.proofs.Common.{◌≡◌, ℕ, ◌≤◌, List, length, refl, arith}
+use Rattle.std.specs.Prelude.{Bool}
 use Rattle.ir_module.specs.declared.tree.Module.{Module}
 use Rattle.ir_module.specs.declared.places.Point.{Point}
 use Rattle.ir_module.specs.Entry.{Entry}
@@ -9,14 +9,12 @@ use Rattle.ir_module.specs.Numbered.{Numbered}
 use Rattle.ir_module.specs.Printable.{IsPrintable}
 use Rattle.kept_items.specs.declared.target.Target.{Target}
 use Rattle.kept_items.specs.declared.target.Target.TheVariants.{Adaptive, Base}
-use Rattle.lowered_program.specs.Residues.{greatest, residue_of, shared_exit}
+use Rattle.lowered_program.specs.Residues.{residue_of, shared_exit}
 use Rattle.lowered_runs.specs.Laws.{AdaptiveBehaves, BaseBehaves, IsAdmitted}
 use Rattle.lowered_runs.specs.Made.{CodesFit, IsMade}
 use Rattle.lowered_sizes.specs.Sizes.{HasFewInstructions, HasFewPhis}
 use Rattle.numbered_residue.specs.Laws.{PrintedIsNumbered}
 use Rattle.path_search.specs.Explored.{Explored}
-use Rattle.printable_residue.specs.Laws.{PrintedIsPrintable}
-use Rattle.printable_residue.specs.Pieces.{HasPrintablePieces}
 use Rattle.printed_residue.specs.Laws.{IsGood}
 use Rattle.profiled_residue.specs.Laws.{PrintedPasses}
 use Rattle.profiled_residue.specs.Premises.{FitsProfile}
@@ -28,7 +26,6 @@ use Rattle.residue.specs.declared.parts.Residue.{Residue}
 use Rattle.residue.specs.Printed.{printed}
 use Rattle.static_steps.specs.declared.config.Config.{Config}
 use Rattle.type_check.specs.Faults.{Typed}
-use Rattle.type_check.specs.Required.{required_qubits, required_results}
 use Rattle.typed_residue.specs.Laws.{FitsLimit, PrintedIsTyped}
 use Rattle.typed_runs.specs.Laws.{FixedNamingFits, NeverStuck}
 use Rattle.fused_parts.specs.Nodes.{Node, joins}
@@ -45,7 +42,6 @@ pub record AreProved : Type 0 where
   pub numbered : PrintedIsNumbered
   pub typed : PrintedIsTyped
   pub passes : PrintedPasses
-  pub printable : PrintedIsPrintable
   pub stuck : NeverStuck
   pub fits : FixedNamingFits
   pub instructions : HasFewInstructions
@@ -78,7 +74,7 @@ module _ (m : Module) (t : Target) (live : Point → LocalId → Bool) (e : Entr
 
   module _ (admitted : IsAdmitted p source_limit e) (explored : Explored (search_of p budget) (Carries p) nodes) where
     -- the printed numbers are within the limit of lowered modules
-    fits-limit : ((g : Config) → IsReached p g → LeadOn p g (step_of p g)) → length nodes ≤ 1000000 → IsGood r t → FitsLimit r lowered_limit
+    pub fits-limit : ((g : Config) → IsReached p g → LeadOn p g (step_of p g)) → length nodes ≤ 1000000 → IsGood r t → FitsLimit r lowered_limit
     fits-limit leads few good =
         let a = allocated-below p leads budget nodes explored in
         let b = returned-below p leads budget nodes explored in
@@ -97,9 +93,9 @@ module _ (m : Module) (t : Target) (live : Point → LocalId → Bool) (e : Entr
     pub sound : AreProved → ((g : Config) → IsReached p g → LeadOn p g (step_of p g)) → length nodes ≤ budget → budget ≤ 1000000
         → IsMade p nodes (shared_exit t nodes) (residue_of p e.function nodes) → CodesFit nodes → IsGood (residue_of p e.function nodes) t
         → FitsProfile (residue_of p e.function nodes) t
-        → (IsPrintable m → HasPrintablePieces (residue_of p e.function nodes))
+        → (IsPrintable m → IsPrintable (printed (residue_of p e.function nodes) t))
         → IsSound m t budget nodes (printed (residue_of p e.function nodes) t)
-    sound laws leads within small made codes good profile pieces =
+    sound laws leads within small made codes good profile prints =
         let few : length nodes ≤ 1000000 = omega (arith, within, small) in
         let numbered = laws.numbered r t good.valid in
         let typed = laws.typed r t lowered_limit good.valid (fits-limit leads few good) in
@@ -113,5 +109,5 @@ module _ (m : Module) (t : Target) (live : Point → LocalId → Bool) (e : Entr
           lowered_runs = runs-always laws.stuck (printed r t) lowered_limit numbered typed;
           few_instructions = laws.instructions m nodes (joins nodes) (part_number (joins nodes)) (shared_exit t nodes) r t refl;
           few_phis = laws.phis m nodes (joins nodes) (part_number (joins nodes)) (shared_exit t nodes) r t refl;
-          printable = λ h. laws.printable r t good.valid (pieces h);
+          printable = prints;
         }

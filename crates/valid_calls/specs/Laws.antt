@@ -21,7 +21,8 @@ is_measurement c = false
 
 -- a measurement is named among these
 abbrev pub measurement_named : List (List ℕ) → Item → Bool
-measurement_named names (item.Operation name args) = not (is_measurement (class_of name (signature ty.Void (types_of args)))) || is_named names name
+measurement_named names (item.Operation name args) =
+    not (is_measurement (class_of name (signature ty.Void (types_of args)))) || is_named names name
 measurement_named names x = true
 
 -- the names of operations are those of quantum instructions, and one name has one list of types

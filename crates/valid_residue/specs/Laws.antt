@@ -36,4 +36,7 @@ HandlesAreBelow = (p : Program) (nodes : List Node) (r : Residue) → IsLowered 
 -- what an Adaptive target has permits the whole program
 unfoldable pub AdaptivePermits : Type 0
 AdaptivePermits =
-    (p : Program) (caps : Caps) (nodes : List Node) (r : Residue) → p.target ≡ Adaptive caps → IsLowered p nodes r → target_permits r p.target ≡ true
+    (p : Program) (caps : Caps) (nodes : List Node) (r : Residue)
+    → p.target ≡ Adaptive caps
+    → IsLowered p nodes r
+    → target_permits r p.target ≡ true

@@ -2,6 +2,7 @@ pub mod Admitting
 pub mod BaseBehaviour
 mod Below
 pub mod Calls
+pub mod Checked
 pub mod Entries
 mod Follow
 mod Gates

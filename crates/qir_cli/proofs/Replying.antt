@@ -9,11 +9,12 @@ use Rattle.ir_reader.specs.Answers.{MayStopWith}
 use Rattle.ir_reader.specs.Laws.{OneAnswer}
 use Rattle.ir_values.specs.declared.memory.Memory.{Memory as NoMemory}
 use Rattle.type_check.specs.Laws.{HasOneFirstFault, TypedOrFaulty}
+use Rattle.check_command.specs.Laws.{ReportsAreOne, ReportsExist}
 use Rattle.qir_cli.specs.Admission.{Admits}
 use Rattle.qir_cli.specs.BaseText.{base_text}
 use Rattle.qir_cli.specs.code.Stops.{Meets, stop_of}
 use Rattle.qir_cli.specs.declared.command.Command.{Command}
-use Rattle.qir_cli.specs.declared.command.Command.TheVariants.{Print, LowerBase}
+use Rattle.qir_cli.specs.declared.command.Command.TheVariants.{Print, Check, LowerBase}
 use Rattle.qir_cli.specs.declared.refusal.Fault.TheVariants.{TooLong, Lower}
 use Rattle.qir_cli.specs.declared.refusal.LowerCode.TheVariants.{FirstPath, Budget}
 use Rattle.qir_cli.specs.declared.refusal.Refusal.{Refusal}
@@ -29,6 +30,7 @@ use Rattle.qir_cli.specs.Replies.{ComesTo, Does, DoesAdmitted, DoesText, instruc
 use Rattle.qir_cli.specs.Stages.{Is, Then, refuses, leads_on, AtMostOne, AtLeastOne}
 use Rattle.qir_cli.proofs.Admitting.{admits-one, admits-some}
 use Rattle.qir_cli.proofs.BaseBehaviour.{lowered-is}
+use Rattle.qir_cli.proofs.Checked.{checks-one, checks-some}
 use Rattle.qir_cli.proofs.Reading.{reads-one, reads-some, refused-misreads}
 use Rattle.qir_cli.proofs.Stages.{is-one, is-some, never-both, same-given, then-one, then-some}
 use Rattle.ir_module.specs.Entry.{Entry}
@@ -65,21 +67,23 @@ lowers-some : (budget : ℕ) (parsed : Parsed) (e : Entry) → Is (within_budget
 lowers-some budget parsed e h =
     (Ok (record { status = Done; text = base_text parsed.module e.function }), lowers-replies budget parsed e _ (sym h) refl refl)
 
-does-one : (command : Command) (parsed : Parsed) → HasOneText command → AtMostOne (DoesAdmitted command parsed)
-does-one Print parsed _ = is-one _
-does-one (LowerBase budget) parsed _ =
+does-one : ReportsAreOne → (command : Command) (parsed : Parsed) → HasOneText command → AtMostOne (DoesAdmitted command parsed)
+does-one reported Print parsed _ = is-one _
+does-one reported (Check profile) parsed _ = checks-one reported profile parsed
+does-one reported (LowerBase budget) parsed _ =
     then-one (Is (within_budget budget parsed (one_block parsed.module))) (Lowers budget parsed.module) (is-one _) (lowers-one budget parsed.module)
 
-does-some : (command : Command) (parsed : Parsed) → AtLeastOne (DoesAdmitted command parsed)
-does-some Print parsed = is-some _
-does-some (LowerBase budget) parsed =
+does-some : ReportsExist → (command : Command) (parsed : Parsed) → AtLeastOne (DoesAdmitted command parsed)
+does-some reported Print parsed = is-some _
+does-some reported (Check profile) parsed = checks-some reported profile parsed
+does-some reported (LowerBase budget) parsed =
     then-some (Is (within_budget budget parsed (one_block parsed.module))) (Lowers budget parsed.module) (is-some _) (lowers-some budget parsed)
 
-module _ (one : OneAnswer) (single : HasOneFirstFault) where
+module _ (one : OneAnswer) (single : HasOneFirstFault) (reported : ReportsAreOne) where
   text-one : (command : Command) (text : List ℕ) → HasOneText command → AtMostOne (DoesText command text)
   text-one command text has =
       then-one (Reads text) (Does command) (reads-one one text)
-      (λ parsed. then-one (Admits parsed) (DoesAdmitted command) (admits-one single parsed) (λ given. does-one command given has))
+      (λ parsed. then-one (Admits parsed) (DoesAdmitted command) (admits-one single parsed) (λ given. does-one reported command given has))
 
   comes-one : (command : Command) (bytes : List ℕ) → HasOneText command → AtMostOne (ComesTo command bytes)
   comes-one command bytes has = then-one (Is (within_limit bytes)) (DoesText command) (is-one _) (λ text. text-one command text has)
@@ -87,11 +91,11 @@ module _ (one : OneAnswer) (single : HasOneFirstFault) where
   pub replies-one : RepliesAreOne
   replies-one command bytes has r s a b = a.2 ∙ ap reply_of (comes-one command bytes has a.0 b.0 a.1 b.1) ∙ sym b.2
 
-module _ (one : OneAnswer) (judged : TypedOrFaulty) where
+module _ (one : OneAnswer) (judged : TypedOrFaulty) (reported : ReportsExist) where
   text-some : (command : Command) (text : List ℕ) → AtLeastOne (DoesText command text)
   text-some command text =
       then-some (Reads text) (Does command) (reads-some one text)
-      (λ parsed _. then-some (Admits parsed) (DoesAdmitted command) (admits-some judged parsed) (λ given _. does-some command given))
+      (λ parsed _. then-some (Admits parsed) (DoesAdmitted command) (admits-some judged parsed) (λ given _. does-some reported command given))
 
   comes-some : (command : Command) (bytes : List ℕ) → AtLeastOne (ComesTo command bytes)
   comes-some command bytes = then-some (Is (within_limit bytes)) (DoesText command) (is-some _) (λ text _. text-some command text)

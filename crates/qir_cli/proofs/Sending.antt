@@ -12,7 +12,7 @@ use Rattle.qir_ports.specs.Known.{GivesTooMany, GivesUpTo}
 use Rattle.qir_cli.specs.code.Stops.{Writes, whole, in_part, Sends}
 use Rattle.qir_cli.specs.Commands.{command_of}
 use Rattle.qir_cli.specs.declared.command.Command.{Command}
-use Rattle.qir_cli.specs.declared.command.Command.TheVariants.{Print, LowerBase}
+use Rattle.qir_cli.specs.declared.command.Command.TheVariants.{Print, Check, LowerBase}
 use Rattle.qir_cli.specs.declared.refusal.Fault.TheVariants.{TooLong}
 use Rattle.qir_cli.specs.declared.refusal.Refusal.{Refusal}
 use Rattle.qir_cli.specs.declared.reply.Reply.{Reply}
@@ -22,6 +22,7 @@ use Rattle.qir_cli.specs.Outcomes.{Answered, HasReply, IsAnswered, IsUnwritten, 
 use Rattle.qir_cli.specs.Refusals.{at_start}
 use Rattle.qir_cli.specs.Replies.{ComesTo, DoesAdmitted, limit, Lowers, Replies, reply_of, too_long, within_limit}
 use Rattle.qir_cli.specs.Stages.{refuses, leads_on}
+use Rattle.qir_cli.proofs.Checked.{checks-answered}
 use Rattle.qir_cli.proofs.Replying.{too-long-is}
 
 -- what a command comes to has one of the statuses of replies
@@ -31,6 +32,7 @@ lowers-answered budget m e (Err why) l = absurd l
 
 does-answered : (command : Command) (parsed : Parsed) (end : Result Reply Refusal) → DoesAdmitted command parsed end → IsAnswered (reply_of end).status
 does-answered Print parsed end d = subst (λ end. IsAnswered (reply_of end).status) (sym d) tt
+does-answered (Check profile) parsed end d = checks-answered profile parsed end d
 does-answered (LowerBase budget) parsed end (refuses why f) = tt
 does-answered (LowerBase budget) parsed end (leads_on e end' f last) = lowers-answered budget parsed.module e end' last
 

@@ -1,13 +1,14 @@
 -- Laws of replies.
 use Rattle.std.specs.Prelude.{ℕ, List}
 use Rattle.qir_cli.specs.declared.command.Command.{Command}
-use Rattle.qir_cli.specs.declared.command.Command.TheVariants.{Print, LowerBase}
+use Rattle.qir_cli.specs.declared.command.Command.TheVariants.{Print, Check, LowerBase}
 use Rattle.qir_cli.specs.Replies.{Replies}
 use Rattle.qir_cli.specs.Stages.{AtMostOne, AtLeastOne}
 
 -- the commands that have one text for an input
 abbrev pub HasOneText : Command → Type 0
 HasOneText Print = Unit {0}
+HasOneText (Check profile) = Unit {0}
 HasOneText (LowerBase budget) = Unit {0}
 
 -- they have at most one reply to it

@@ -2,6 +2,7 @@ pub mod Admission
 pub mod BaseGates
 pub mod BaseText
 pub mod BaseTree
+pub mod Checking
 pub mod Commands
 pub mod Headline
 pub mod Laws

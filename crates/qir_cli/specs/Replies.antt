@@ -10,7 +10,8 @@ use Rattle.qir_cli.specs.Admission.{Admits, place_at}
 use Rattle.qir_cli.specs.BaseText.{base_text}
 use Rattle.qir_cli.specs.BaseTree.{base_tree, naming_of}
 use Rattle.qir_cli.specs.declared.command.Command.{Command}
-use Rattle.qir_cli.specs.declared.command.Command.TheVariants.{Print, LowerBase}
+use Rattle.qir_cli.specs.Checking.{Checks}
+use Rattle.qir_cli.specs.declared.command.Command.TheVariants.{Print, Check, LowerBase}
 use Rattle.qir_cli.specs.declared.refusal.Fault.TheVariants.{TooLong, Lower}
 use Rattle.qir_cli.specs.declared.refusal.LowerCode.TheVariants.{FirstPath, Budget}
 use Rattle.qir_cli.specs.declared.refusal.Refusal.{Refusal}
@@ -65,6 +66,7 @@ printed m = record { status = Done; text = canonical m }
 -- what a command does with a module that was admitted, and the places of its spots
 abbrev pub DoesAdmitted : Command → Parsed → Result Reply Refusal → Type 0
 DoesAdmitted Print parsed = Is (Ok (printed parsed.module))
+DoesAdmitted (Check profile) parsed = Checks profile parsed
 DoesAdmitted (LowerBase budget) parsed = LowersBase budget parsed
 
 -- with one that was read

@@ -1,6 +1,7 @@
 //! Laws of replies.
 ghost use Rattle.qir_cli.specs.Laws.{RepliesAreOne, RepliesExist};
 
+use check_command::{reports_are_one, reports_exist};
 use ir_reader::one_answer;
 use type_check::{modules_are_typed_or_faulty, modules_have_one_first_fault};
 
@@ -10,6 +11,7 @@ pub fn replies_are_one()
 {
     one_answer();
     modules_have_one_first_fault();
+    reports_are_one();
 }
 
 /// Every command has a reply to every input.
@@ -18,4 +20,5 @@ pub fn replies_exist()
 {
     one_answer();
     modules_are_typed_or_faulty();
+    reports_exist();
 }

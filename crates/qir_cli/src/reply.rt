@@ -1,5 +1,7 @@
 //! The replies of commands to texts.
 ghost use Rattle.std.specs.Prelude.{◌≡◌, ◌≤◌, length, IfOk, Ok as Gives};
+ghost use Rattle.finding_lines.specs.Lines.{ArePlaces};
+ghost use Rattle.qir_cli.specs.Checking.{Checks, reported};
 ghost use Rattle.qir_cli.specs.code.AdmittedCode.{parsed_of};
 ghost use Rattle.qir_cli.specs.code.Placed.{Placed};
 ghost use Rattle.qir_cli.specs.code.Stops.{Meets};
@@ -11,8 +13,10 @@ use crate::command::Command;
 use crate::lower_base::lower_base;
 use crate::refusal::{Fault, Refusal, Stop};
 use crate::status::Status;
+use check_command::{Profile, check};
 use ir_module::Module;
 use ir_values::{Bytes, Memory};
+use profile_checks::Report;
 use std::alloc::Global;
 
 /// The status and the text of a reply.
@@ -31,6 +35,20 @@ impl Reply {
             status: Status::Refused,
             text: why.line(alloc)?,
         })
+    }
+
+    /// The reply that tells what was reported of a module.
+    fn reported(report: Report) -> Reply
+        ensures { result ≡ reported report }
+    {
+        Reply {
+            status: if report.clean {
+                Status::Done
+            } else {
+                Status::Refused
+            },
+            text: report.text,
+        }
     }
 }
 
@@ -58,12 +76,14 @@ fn run(alloc: Global, command: Command, text: &[u8]) -> Result<Reply, Stop>
 
 /// What the command does with a module that was admitted.
 fn does(alloc: Global, command: Command, a: &Admitted) -> Result<Reply, Stop>
-    requires { Placed (parsed_of a.now) }
+    requires instructions { Placed (parsed_of a.now) }
+    requires parts { ArePlaces a.now.checked.tree a.now.places }
     ensures { Meets (spec.DoesAdmitted command (parsed_of a.now)) result }
 {
     let m = a.checked.module();
     match command {
         Command::Print => print_module(alloc, m),
+        Command::Check { profile } => check_module(alloc, a, profile),
         Command::LowerBase { budget } => lower_base(alloc, budget, m, &a.places),
     }
 }
@@ -76,6 +96,15 @@ fn print_module(alloc: Global, m: &Module) -> Result<Reply, Stop>
         status: Status::Done,
         text: ir_printer::print(alloc, m)?,
     })
+}
+
+/// What a profile says of a module.
+fn check_module(alloc: Global, a: &Admitted, profile: Profile) -> Result<Reply, Stop>
+    requires { ArePlaces a.now.checked.tree a.now.places }
+    ensures { Meets (Checks profile (parsed_of a.now)) result }
+{
+    let report = check(alloc, &a.checked, &a.places, profile)?;
+    Ok(Reply::reported(report))
 }
 
 /// The reply to a longer text.

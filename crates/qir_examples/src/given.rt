@@ -83,11 +83,14 @@ fn calls(alloc: Global, numbers: &[u64]) -> Result<Calls, Memory> {
     Ok(calls)
 }
 
-/// The text of one block with these lines, which requires this number of qubits and of results.
+/// The text of a program with these lines, of which labels stand at the margin, which requires this number of qubits and of
+/// results.
 pub fn text_of(alloc: Global, qubits: &str, results: &str, body: &[&str]) -> Result<Bytes, Memory> {
     let mut text = bytes(alloc, HEAD)?;
     for line in body {
-        text.extend_from_slice(b"  ")?;
+        if !line.ends_with(':') {
+            text.extend_from_slice(b"  ")?;
+        }
         text.extend_from_slice(line.as_bytes())?;
         text.push(b'\n')?;
     }

@@ -2,8 +2,12 @@
 #![tactic(auto)]
 
 #[cfg(test)]
+mod check;
+#[cfg(test)]
 mod given;
 #[cfg(test)]
 mod lower_base;
 #[cfg(test)]
 mod print;
+#[cfg(test)]
+mod texts;

@@ -9,7 +9,7 @@ use Rattle.qir_cli.specs.Stages.{Is}
 use Rattle.qir_cli.proofs.reply.does.Goals as goal
 
 pub lower_base-requires : goal.lower_base-requires
-lower_base-requires c = subst (λ (m : Module). Placed (parsed_as m c.args.a.now.places)) (sym c.module-m.ensures.module) c.requires
+lower_base-requires c = subst (λ (m : Module). Placed (parsed_as m c.args.a.now.places)) (sym c.module-m.ensures.module) c.requires.instructions
 
 pub returns-in-Print : goal.returns-in-Print
 returns-in-Print c =

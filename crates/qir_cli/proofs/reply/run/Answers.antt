@@ -1,6 +1,8 @@
 use Rattle.std.proofs.Common.{sym, subst}
 use Rattle.std.specs.Prelude.{Err}
 use Rattle.std.proofs.lemmas.Result.{err_from_is_err_and}
+use Rattle.finding_lines.specs.Lines.{ArePlaces}
+use Rattle.ir_reader.specs.declared.parsed.Parsed.{Parsed}
 use Rattle.qir_cli.specs.Admission.{Admits}
 use Rattle.qir_cli.specs.code.AdmittedCode.{parsed_of}
 use Rattle.qir_cli.specs.code.Placed.{Placed}
@@ -32,9 +34,10 @@ returns-in_err-admitted c =
     (meets-first (Admits parsed) (DoesAdmitted c.args.command) c.in_err-admitted.field-0.0 c.in_err-admitted.ensures)))
 
 pub does-requires : goal.does-requires
-does-requires c =
-    subst Placed (sym c.in_ok-admitted.ensures.same)
-    (placed c.in_ok-parsed.parsed c.in_ok-parsed.ensures.few c.in_ok-parsed.ensures.spots)
+does-requires c = record {
+  instructions = subst Placed (sym c.in_ok-admitted.ensures.same) (placed c.in_ok-parsed.parsed c.in_ok-parsed.ensures.few c.in_ok-parsed.ensures.spots);
+  parts = subst (λ (p : Parsed). ArePlaces p.module p.places) (sym c.in_ok-admitted.ensures.same) c.in_ok-parsed.ensures.spots;
+}
 
 pub returns : goal.returns
 returns c =

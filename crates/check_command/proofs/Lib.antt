@@ -1,0 +1,4 @@
+mod Exist
+mod Reach
+mod Same
+mod Tables

@@ -5,7 +5,6 @@ use Rattle.admission.specs.declared.stop.AdmitStop.{AdmitStop}
 use Rattle.admission.specs.declared.stop.AdmitStop.TheVariants as admit
 use Rattle.admission.specs.Admitted.{greatest_required}
 use Rattle.admission.specs.Stops.{StopsAt}
-use Rattle.ir_module.specs.declared.places.Place.{Place}
 use Rattle.ir_module.specs.declared.places.Spot.{Spot}
 use Rattle.ir_module.specs.declared.tree.Module.{Module}
 use Rattle.ir_module.specs.Spots.{spots}

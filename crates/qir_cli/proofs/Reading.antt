@@ -1,5 +1,5 @@
 -- What is known of texts: the only file of proofs that knows what the reader says.
-use Rattle.std.proofs.Common.{◌≡◌, ◌∙◌, ℕ, Bool, true, false, List, refl, ap, sym, true≢false}
+use Rattle.std.proofs.Common.{◌≡◌, ◌∙◌, ℕ, List, refl, ap, sym}
 use Rattle.std.specs.Prelude.{Result, Ok, Err}
 use Rattle.ir_module.specs.declared.places.Place.{Place}
 use Rattle.ir_reader.specs.declared.parsed.Parsed.{Parsed}
@@ -7,10 +7,9 @@ use Rattle.ir_reader.specs.declared.parsed.ReadCode.{ReadCode}
 use Rattle.ir_reader.specs.declared.parsed.ReadStop.TheVariants as stop
 use Rattle.ir_reader.specs.Answers.{MayStopWith}
 use Rattle.ir_reader.specs.Laws.{OneAnswer, Reads as Told}
-use Rattle.ir_reader.specs.Misreading.{Misread}
 use Rattle.qir_cli.specs.declared.refusal.Fault.TheVariants.{Read}
 use Rattle.qir_cli.specs.declared.refusal.Refusal.{Refusal}
-use Rattle.qir_cli.specs.Reading.{Misreads, Reads, ReadsAs}
+use Rattle.qir_cli.specs.Reading.{Misreads, Reads}
 use Rattle.qir_cli.specs.Stages.{AtMostOne, AtLeastOne}
 
 abbrev Answer : Type 0

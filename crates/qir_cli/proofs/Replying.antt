@@ -26,7 +26,7 @@ use Rattle.qir_cli.specs.Laws.{HasOneText, RepliesAreOne, RepliesExist}
 use Rattle.qir_cli.specs.OneBlock.{one_block}
 use Rattle.qir_cli.specs.Reading.{Reads, ReadsAs}
 use Rattle.qir_cli.specs.Refusals.{at_start}
-use Rattle.qir_cli.specs.Replies.{ComesTo, Does, DoesAdmitted, DoesText, instructions, limit, Lowers, LowersBase, place_in, printed, refused, Replies, reply_of, within_budget, within_limit}
+use Rattle.qir_cli.specs.Replies.{ComesTo, Does, DoesAdmitted, DoesText, instructions, limit, Lowers, place_in, refused, Replies, reply_of, within_budget, within_limit}
 use Rattle.qir_cli.specs.Stages.{Is, Then, refuses, leads_on, AtMostOne, AtLeastOne}
 use Rattle.qir_cli.proofs.Admitting.{admits-one, admits-some}
 use Rattle.qir_cli.proofs.BaseBehaviour.{lowered-is}

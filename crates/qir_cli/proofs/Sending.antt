@@ -20,7 +20,7 @@ use Rattle.qir_cli.specs.declared.status.Status.{Status}
 use Rattle.qir_cli.specs.declared.status.Status.TheVariants.{Done, Refused, BadWords, Stopped, ReadFault, WriteFault, Memory}
 use Rattle.qir_cli.specs.Outcomes.{Answered, HasReply, IsAnswered, IsUnwritten, PartlyAnswered}
 use Rattle.qir_cli.specs.Refusals.{at_start}
-use Rattle.qir_cli.specs.Replies.{ComesTo, DoesAdmitted, limit, Lowers, Replies, reply_of, too_long, within_limit}
+use Rattle.qir_cli.specs.Replies.{ComesTo, DoesAdmitted, limit, Lowers, Replies, reply_of, too_long}
 use Rattle.qir_cli.specs.Stages.{refuses, leads_on}
 use Rattle.qir_cli.proofs.Checked.{checks-answered}
 use Rattle.qir_cli.proofs.Replying.{too-long-is}

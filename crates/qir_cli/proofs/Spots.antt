@@ -1,6 +1,6 @@
 -- Each instruction of a function of one block has its place.
-use Rattle.std.proofs.Common.{◌≡◌, ◌∙◌, ℕ, zero, suc, ◌+◌, ◌<◌, ◌≤◌, ◌^◌, Bool, true, false, ◌||◌, List, [], ◌∷◌, ◌++◌, length, map, refl, ap, sym, subst, arith, if◌then◌else◌, eq-eqb, true≢false}
-use Rattle.std.specs.Prelude.{◌==◌, IsSome, IsTrue, Option, None, Some, slice_get}
+use Rattle.std.proofs.Common.{◌≡◌, ℕ, zero, suc, ◌+◌, ◌<◌, ◌≤◌, ◌^◌, Bool, true, false, List, [], ◌∷◌, ◌++◌, length, map, refl, sym, subst, arith, if◌then◌else◌, eq-eqb, true≢false}
+use Rattle.std.specs.Prelude.{◌==◌, IsSome, Option, Some, slice_get}
 use Rattle.ir_module.specs.declared.places.Place.{Place}
 use Rattle.ir_module.specs.declared.places.Spot.{Spot}
 use Rattle.ir_module.specs.declared.places.Spot.TheVariants as spot
@@ -8,7 +8,7 @@ use Rattle.ir_module.specs.declared.tree.Block.{Block}
 use Rattle.ir_module.specs.declared.tree.Function.{Function}
 use Rattle.ir_module.specs.Places.{place_of, same_spot}
 use Rattle.ir_module.specs.Spots.{spots, point_at, points_from, block_spots, blocks_spots, function_spots, functions_spots}
-use Rattle.ir_module.specs.Tree.{blocks_of, blocks_or_none}
+use Rattle.ir_module.specs.Tree.{blocks_or_none}
 use Rattle.ir_reader.specs.declared.parsed.Parsed.{Parsed}
 use Rattle.qir_cli.specs.code.Placed.{Placed}
 use Rattle.qir_cli.proofs.Insts.{never, some-inj}

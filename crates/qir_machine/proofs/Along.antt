@@ -20,7 +20,7 @@ use Rattle.output_records.specs.declared.record.Record.{Record}
 use Rattle.qir_machine.specs.declared.machine.Machine.{Machine}
 use Rattle.qir_machine.specs.declared.run.Ended.{Ended}
 use Rattle.qir_machine.specs.Heard.{answers_of, Caused, Heard}
-use Rattle.qir_machine.specs.Runs.{Broken, IsAdmitted, IsCutAt, Ran}
+use Rattle.qir_machine.specs.Runs.{Broken, HasMeaning, IsCutAt, Ran}
 use Rattle.qir_machine.specs.code.Machines.{Begins, Does, DoesMove, Knows, state, whole_of}
 use Rattle.qir_machine.proofs.Aptly.{move-same}
 use Rattle.qir_machine.proofs.Hearing.{answers-append, caused-more, heard-more, heard-none}

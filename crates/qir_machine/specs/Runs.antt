@@ -13,8 +13,8 @@ use Rattle.qir_machine.specs.declared.run.Ended.{Ended}
 use Rattle.qir_machine.specs.Heard.{answers_of, Caused, Heard}
 use Rattle.type_check.specs.Faults.{Typed}
 
--- a module without faults, its handles below some limit
-pub record IsAdmitted (m : Module) : Type 0 where
+-- a module that has a meaning: its numbers are in order, and it has no fault, its handles being below some limit
+pub record HasMeaning (m : Module) : Type 0 where
   pub numbered : Numbered m
   pub limit : ℕ
   pub typed : Typed m limit

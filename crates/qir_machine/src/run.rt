@@ -2,7 +2,7 @@
 ghost use Rattle.std.specs.Prelude.{◌≡◌, [], IfOk, OnErr};
 ghost use Rattle.ir_module.specs.Entry.{Entry, entry_of};
 ghost use Rattle.backend_api.specs.declared.operation.Answer.{Answer};
-ghost use Rattle.qir_machine.specs.Runs.{Broken, IsAdmitted, Ran};
+ghost use Rattle.qir_machine.specs.Runs.{Broken, HasMeaning, Ran};
 ghost use Rattle.qir_machine.specs.code.Machines.{Begins};
 
 use crate::classes::classes_of;
@@ -29,7 +29,7 @@ pub struct Ended {
 
 /// The machine before the first instruction.
 fn begin(alloc: Global, m: &Module) -> Result<Machine, Memory>
-    requires { IsAdmitted m.now }
+    requires { HasMeaning m.now }
     ensures { IfOk result (Begins m.now) }
 {
     admitted_modules_keep_the_invariant();
@@ -62,7 +62,7 @@ pub fn run_on<B: Backend>(
     backend: &mut B,
     steps: u64,
 ) -> Result<Ended, Memory>
-    requires { IsAdmitted m.now }
+    requires { HasMeaning m.now }
     ensures ran { IfOk result (λ ended.
         Ran m.now steps ended (B.state backend.old) (B.state backend.new)) }
     ensures memory { OnErr result

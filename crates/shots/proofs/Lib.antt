@@ -1,0 +1,5 @@
+mod Backing
+mod Existing
+mod Single
+mod Ticking
+mod Turning

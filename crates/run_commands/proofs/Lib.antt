@@ -1,0 +1,5 @@
+pub mod Ended
+mod Played
+mod Reading
+mod Single
+mod Told

@@ -1,0 +1,4 @@
+pub mod Laws
+pub mod Shots
+pub mod Words
+pub mod code

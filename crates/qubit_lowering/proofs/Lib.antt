@@ -1,4 +1,5 @@
 pub mod Budget
 pub mod Entries
+pub mod Kept
 pub mod Returned
 pub mod Words

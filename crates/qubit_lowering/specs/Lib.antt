@@ -1,3 +1,4 @@
 pub mod Sources
 pub mod Lowered
 pub mod Codes
+pub mod Kept

@@ -3,6 +3,8 @@
 
 mod codes;
 mod lowering;
+mod modules;
 mod sources;
 
 pub use lowering::lower_residue;
+pub use modules::lower;

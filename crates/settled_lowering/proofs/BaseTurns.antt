@@ -1,5 +1,5 @@
 -- What constant evaluation does at each instruction of a printed Base residue.
-use Rattle.std.proofs.Common.{◌≡◌, ℕ, suc, ◌≤◌, Bool, true, false, not, Option, None, Some, List, [], ◌∷◌, map, refl, sym, ap, ◌∙◌, subst, arith}
+use Rattle.std.proofs.Common.{option_map, ◌≡◌, ℕ, suc, ◌≤◌, Bool, true, false, not, Option, None, Some, List, [], ◌∷◌, map, refl, sym, ap, ◌∙◌, subst, arith}
 use Rattle.std.proofs.lemmas.Bool.{and_parts}
 use Rattle.std.specs.List.{list_all, list_any}
 use Rattle.std.specs.Prelude.{◌||◌, if◌then◌else◌, slice_get}
@@ -16,7 +16,7 @@ use Rattle.ir_values.specs.declared.ty.Ty.{Ty}
 use Rattle.ir_values.specs.declared.ty.Ty.TheVariants as ty
 use Rattle.ir_values.specs.declared.value.Value.{Value}
 use Rattle.ir_values.specs.declared.value.Value.TheVariants as value
-use Rattle.ir_values.specs.Int.{signed}
+use Rattle.ir_values.specs.Int.{IntValue, signed}
 use Rattle.kept_items.specs.declared.item.Choice.TheVariants.{One}
 use Rattle.kept_items.specs.declared.item.Code.{Code}
 use Rattle.kept_items.specs.declared.item.Code.TheVariants as code
@@ -30,7 +30,7 @@ use Rattle.residue.specs.declared.parts.Residue.{Residue}
 use Rattle.residue.specs.declared.parts.Tail.{Tail}
 use Rattle.residue.specs.declared.parts.Tail.TheVariants as tail
 use Rattle.residue.specs.Functions.{all_items, called, initialize, is_named, record_name, types_of}
-use Rattle.residue.specs.Instructions.{block_number, call_void, print_tail, typed_operand}
+use Rattle.residue.specs.Instructions.{Words, block_number, call_void, print_tail, typed_operand}
 use Rattle.residue.specs.Phases.{phase_of}
 use Rattle.residue.specs.Printed.{initialize_call, print_blocks, printed, words}
 use Rattle.residue.specs.Scopes.{gives_of, tail_uses}
@@ -48,6 +48,7 @@ use Rattle.static_steps.specs.Records.{outputs}
 use Rattle.static_steps.specs.Returns.{back_turn}
 use Rattle.static_steps.specs.Settings.{Setting, at_point, move_to, passed}
 use Rattle.static_steps.specs.Steps.{step_turn}
+use Rattle.static_steps.specs.Values.{Names}
 use Rattle.qir_meaning.specs.Moves.{block_in, given}
 use Rattle.printed_residue.specs.Places.{in_entry}
 use Rattle.printed_residue.proofs.Calls.{Declares, measures, op_class}
@@ -62,6 +63,12 @@ use Rattle.profiled_residue.proofs.Called.{class-is, declaration-called, marked}
 use Rattle.profiled_residue.proofs.CallRules.{base-permits}
 use Rattle.settled_lowering.proofs.BaseBlocks.{StandsIn, initializes, operates, records}
 use Rattle.settled_lowering.proofs.Turns.{all-known-plain, all-known-read, args-typed, called-turn, operation-turn, read, reads_of, vals-read}
+
+-- an item of printed values
+abbrev pub settled : Words → Names Val → Item → Item
+settled ws names (item.Operation name args) = item.Operation name (reads_of ws names args)
+settled ws names (item.Output c args) = item.Output c (reads_of ws names args)
+settled ws names x = x
 
 module _ (r : Residue) (ok : Valid r Base) (fits : FitsProfile r Base) where
   -- ---- which operations are irreversible
@@ -95,20 +102,22 @@ module _ (r : Residue) (ok : Valid r Base) (fits : FitsProfile r Base) where
     abbrev pub s : Setting
     s = record { m = printed r Base; t = Base; live = live; w = w; fresh = record { 0 = 0 } }
 
-    -- on to the next point, in a phase that this block may have
-    pub record Passes (turn : Turn) : Type 0 where
+    -- an item as it is left again
+    abbrev pub settle : Item → Item
+    settle x = settled (words r) w.top.names x
+
+    -- on to the next point, in a phase that this block may have, leaving this item
+    pub record Passes (left : Option Item) (turn : Turn) : Type 0 where
       pub to : Phase
       pub ranked : rank to ≤ n
-      pub item : Option Item
-      pub is : turn ≡ Goes (move_to live (record (passed s) { phase = to }) ∷ []) item One
+      pub is : turn ≡ Goes (move_to live (record (passed s) { phase = to }) ∷ []) left One
 
     -- ---- instructions
 
-    initialized : Passes (step_turn s (InstAt initialize_call))
+    initialized : Passes None (step_turn s (InstAt initialize_call))
     initialized = record {
       to = w.phase;
       ranked = early;
-      item = None;
       is = called-turn s None ty.Void (record { 0 = 1 }) ((ty.Text, operand.Const value.NoLabel) ∷ []) initialize.name class.Init (initialize-declared r Base) (Known value.NoLabel ∷ []) refl;
     }
 
@@ -116,23 +125,23 @@ module _ (r : Residue) (ok : Valid r Base) (fits : FitsProfile r Base) where
     issued b name args = issues_in s (if b then after_irreversible w.phase else after_reversible w.phase) name args
 
     -- an operation stands in the block of its phase
-    issued-in : (b : Bool) (name : List ℕ) (args : List (Ty × Val)) → (if b then 2 else 1) ≡ n → Passes (issued b name args)
+    issued-in : (b : Bool) (name : List ℕ) (args : List (Ty × Val)) → (if b then 2 else 1) ≡ n → Passes (Some (item.Operation name args)) (issued b name args)
     issued-in true name args e = by w.phase refl early
       where
-        by : (ph : Phase) → w.phase ≡ ph → rank w.phase ≤ n → Passes (issued true name args)
-        by phase.Begin q h = record { to = phase.Irreversible; ranked = omega (arith, e); item = _; is = ap (λ ph. issues_in s (after_irreversible ph) name args) q }
-        by phase.Reversible q h = record { to = phase.Irreversible; ranked = omega (arith, e); item = _; is = ap (λ ph. issues_in s (after_irreversible ph) name args) q }
-        by phase.Irreversible q h = record { to = phase.Irreversible; ranked = omega (arith, e); item = _; is = ap (λ ph. issues_in s (after_irreversible ph) name args) q }
+        by : (ph : Phase) → w.phase ≡ ph → rank w.phase ≤ n → Passes (Some (item.Operation name args)) (issued true name args)
+        by phase.Begin q h = record { to = phase.Irreversible; ranked = omega (arith, e); is = ap (λ ph. issues_in s (after_irreversible ph) name args) q }
+        by phase.Reversible q h = record { to = phase.Irreversible; ranked = omega (arith, e); is = ap (λ ph. issues_in s (after_irreversible ph) name args) q }
+        by phase.Irreversible q h = record { to = phase.Irreversible; ranked = omega (arith, e); is = ap (λ ph. issues_in s (after_irreversible ph) name args) q }
         by phase.Output q h = let k = ap rank q in absurd (omega (arith, e, h, k))
     issued-in false name args e = by w.phase refl early
       where
-        by : (ph : Phase) → w.phase ≡ ph → rank w.phase ≤ n → Passes (issued false name args)
-        by phase.Begin q h = record { to = phase.Reversible; ranked = omega (arith, e); item = _; is = ap (λ ph. issues_in s (after_reversible ph) name args) q }
-        by phase.Reversible q h = record { to = phase.Reversible; ranked = omega (arith, e); item = _; is = ap (λ ph. issues_in s (after_reversible ph) name args) q }
+        by : (ph : Phase) → w.phase ≡ ph → rank w.phase ≤ n → Passes (Some (item.Operation name args)) (issued false name args)
+        by phase.Begin q h = record { to = phase.Reversible; ranked = omega (arith, e); is = ap (λ ph. issues_in s (after_reversible ph) name args) q }
+        by phase.Reversible q h = record { to = phase.Reversible; ranked = omega (arith, e); is = ap (λ ph. issues_in s (after_reversible ph) name args) q }
         by phase.Irreversible q h = let k = ap rank q in absurd (omega (arith, e, h, k))
         by phase.Output q h = let k = ap rank q in absurd (omega (arith, e, h, k))
 
-    operated : (name : List ℕ) (args : List (Ty × Val)) → Among (all_items r) (item.Operation name args) → phase_of r.irreversible (item.Operation name args) ≡ n → Passes (step_turn s (InstAt (call_void (words r) name args)))
+    operated : (name : List ℕ) (args : List (Ty × Val)) → Among (all_items r) (item.Operation name args) → phase_of r.irreversible (item.Operation name args) ≡ n → Passes (Some (settle (item.Operation name args))) (step_turn s (InstAt (call_void (words r) name args)))
     operated name args a e =
         let d = item-declared r Base ok (item.Operation name args) a in
         let k : all_known args ≡ true = base-permits r ok (item.Operation name args) a in
@@ -140,7 +149,6 @@ module _ (r : Residue) (ok : Valid r Base) (fits : FitsProfile r Base) where
         let q = issued-in (is_named r.irreversible name) name (reads_of (words r) w.top.names args) e in record {
           to = q.to;
           ranked = q.ranked;
-          item = q.item;
           is = t ∙ ap (λ b. issued b name (reads_of (words r) w.top.names args)) (irreversible-is name args a d) ∙ q.is;
         }
 
@@ -167,23 +175,28 @@ module _ (r : Residue) (ok : Valid r Base) (fits : FitsProfile r Base) where
     record-turn class.ResRecord ((t, Known (value.Func i)) ∷ args) b k h f name ts = refl
     record-turn c args b k h f name ts = cc
 
-    recorded : (c : Class) (args : List (Ty × Val)) → Among (all_items r) (item.Output c args) → n ≡ 3 → Passes (step_turn s (InstAt (call_void (words r) (record_name c) args)))
+    recorded : (c : Class) (args : List (Ty × Val)) → Among (all_items r) (item.Output c args) → n ≡ 3 → Passes (Some (settle (item.Output c args))) (step_turn s (InstAt (call_void (words r) (record_name c) args)))
     recorded c args a e =
         let d = item-declared r Base ok (item.Output c args) a in
         let k = and_parts (is_base_record c) (all_known args) (base-permits r ok (item.Output c args) a) in record {
           to = phase.Output;
           ranked = omega (arith, e);
-          item = Some (item.Output c (reads_of (words r) w.top.names args));
           is =
               called-turn s None ty.Void ((words r).function (record_name c)) (map (typed_operand (words r)) args) (record_name c) c d (map (λ a. read (words r) w.top.names a.1) args) (vals-read (words r) w.top.names args (all-known-read (words r) w.top.names args k.1))
               ∙ record-turn c args k.0 k.1 (plain-args (item.Output c args) a) d.function (record_name c) (map (λ a. a.0) (map (typed_operand (words r)) args))
               ∙ ap (outputs s c) (args-typed (words r) w.top.names args);
         }
 
-    pub inst-passes : (i : _) → StandsIn r n i → Passes (step_turn s (InstAt i))
-    inst-passes i (initializes e) = subst (λ i. Passes (step_turn s (InstAt i))) e initialized
-    inst-passes i (operates name args a p e) = subst (λ i. Passes (step_turn s (InstAt i))) e (operated name args a p)
-    inst-passes i (records c args a p e) = subst (λ i. Passes (step_turn s (InstAt i))) e (recorded c args a p)
+    pub inst-passes : (xs : List Item) (j : ℕ) (i : _) → StandsIn r xs n j i → Passes (option_map settle (slice_get xs j)) (step_turn s (InstAt i))
+    inst-passes xs j i (initializes z e) =
+        subst (λ i. Passes (option_map settle (slice_get xs j)) (step_turn s (InstAt i))) e
+        (subst (λ l. Passes (option_map settle (slice_get l j)) (step_turn s (InstAt initialize_call))) (sym z) initialized)
+    inst-passes xs j i (operates name args g a p e) =
+        subst (λ i. Passes (option_map settle (slice_get xs j)) (step_turn s (InstAt i))) e
+        (subst (λ o. Passes (option_map settle o) (step_turn s (InstAt (call_void (words r) name args)))) (sym g) (operated name args a p))
+    inst-passes xs j i (records c args g a p e) =
+        subst (λ i. Passes (option_map settle (slice_get xs j)) (step_turn s (InstAt i))) e
+        (subst (λ o. Passes (option_map settle o) (step_turn s (InstAt (call_void (words r) (record_name c) args)))) (sym g) (recorded c args a p))
 
     -- ---- terminators
 
@@ -201,11 +214,11 @@ module _ (r : Residue) (ok : Valid r Base) (fits : FitsProfile r Base) where
         arrives (x ∷ phis) e = cc
 
     -- the entry returns the value of its tail
-    pub tail-exits : (t : Tail) → w.below ≡ [] → base_permits_tail t ≡ true → list_all (λ a. val_has (gives_of r) a.0 a.1) (tail_uses t) ≡ true → (code : Code) × (step_turn s (TermAt (print_tail (words r) t)) ≡ Exits code)
+    pub tail-exits : (t : Tail) → w.below ≡ [] → base_permits_tail t ≡ true → list_all (λ a. val_has (gives_of r) a.0 a.1) (tail_uses t) ≡ true → (i : IntValue) × (t ≡ tail.Return (Known (value.Int i))) × (step_turn s (TermAt (print_tail (words r) t)) ≡ Exits (code.Known (signed i)))
     tail-exits (tail.Return (Known v)) e b h = by v (first-passes (λ a. val_has (gives_of r) a.0 a.1) (ty.Int W64, Known v) [] h)
       where
-        by : (v : Value) → val_has (gives_of r) (ty.Int W64) (Known v) ≡ true → (code : Code) × (step_turn s (TermAt (print_tail (words r) (tail.Return (Known v)))) ≡ Exits code)
-        by (value.Int i) h = (code.Known (signed i), ap (λ fs. back_turn s fs (Some (Known (value.Int i)))) e)
+        by : (v : Value) → val_has (gives_of r) (ty.Int W64) (Known v) ≡ true → (i : IntValue) × (tail.Return (Known v) ≡ tail.Return (Known (value.Int i))) × (step_turn s (TermAt (print_tail (words r) (tail.Return (Known v)))) ≡ Exits (code.Known (signed i)))
+        by (value.Int i) h = (i, refl, ap (λ fs. back_turn s fs (Some (Known (value.Int i)))) e)
         by v h = cc
     tail-exits (tail.Return (Dynamic d)) e b h = cc
     tail-exits (tail.Jump j) e b h = cc

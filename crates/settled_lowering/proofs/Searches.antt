@@ -1,5 +1,5 @@
 -- Searches whose nodes have places below the budget, one node a place.
-use Rattle.std.proofs.Common.{◌≡◌, ℕ, zero, suc, ◌<◌, ◌≤◌, List, [], ◌∷◌, ◌++◌, length, Some, refl, sym, ap, ◌∙◌, subst, arith}
+use Rattle.std.proofs.Common.{◌≡◌, ℕ, zero, suc, ◌+◌, ◌<◌, ◌≤◌, List, [], ◌∷◌, ◌++◌, length, Some, refl, sym, ap, ◌∙◌, subst, arith}
 use Rattle.std.proofs.lemmas.Option.{same_Some}
 use Rattle.std.specs.Prelude.{false, slice_get}
 use Rattle.path_search.specs.declared.reason.Reason.{Reason}
@@ -97,7 +97,6 @@ pub record GoesStraight {N K : Type 0} (s : Search N K) (Fits : N → Type 0) (a
   pub first : at s.start ≡ 0
   pub permitted : (g : N) (k : K) → Fits g → s.turn g ≡ Bad k → ⊥
   pub leads : (g h : N) (i : ℕ) → Fits g → slice_get (successors s g) i ≡ Some h → (i ≡ 0) × Fits h × (at h ≡ suc (at g))
-  pub within : (g : N) → Fits g → at g < s.budget
 
 module _ {N K : Type 0} (s : Search N K) (Fits : N → Type 0) (at : N → ℕ) (goes : GoesStraight s Fits at) where
   record IsReached (g : N) : Type 0 where
@@ -118,8 +117,8 @@ module _ {N K : Type 0} (s : Search N K) (Fits : N → Type 0) (at : N → ℕ) 
       let z = n.2 in
       omega (arith, r, z)
 
-  settles : Settles s IsReached at
-  settles = record {
+  settles : ((g : N) → Fits g → at g < s.budget) → Settles s IsReached at
+  settles within = record {
     start = record { fits = goes.start; ends = subst (λ n. IsEnd s (first_choices n) s.start) (sym goes.first) (end_none s s.start) };
     permitted = λ g k h e. goes.permitted g k h.fits e;
     leads = λ g h i f e.
@@ -129,7 +128,7 @@ module _ {N K : Type 0} (s : Search N K) (Fits : N → Type 0) (at : N → ℕ) 
               subst (λ p. IsEnd s p h) (first-more (at g) ∙ ap first_choices (sym n.2))
               (end_push s (first_choices (at g)) g h 0 f.ends (subst (λ k. slice_get (successors s g) k ≡ Some h) n.0 e));
         };
-    within = λ g f. goes.within g f.fits;
+    within = λ g f. within g f.fits;
     one = λ g h u v e. one_end s s.start g h (first_choices (at h)) (subst (λ n. IsEnd s (first_choices n) g) e u.ends) v.ends;
     onward = λ c g h i q u e l.
         let r = rises q h g u.fits e in
@@ -137,5 +136,39 @@ module _ {N K : Type 0} (s : Search N K) (Fits : N → Type 0) (at : N → ℕ) 
         too-many (at g) (omega (arith, r, n));
   }
 
-  pub straight-accepts : Accepts s
-  straight-accepts = settled-accepts s IsReached at settles
+  pub straight-accepts : ((g : N) → Fits g → at g < s.budget) → Accepts s
+  straight-accepts within = settled-accepts s IsReached at (settles within)
+
+  -- a path is one of first choices, as long as the place that it leads to
+  record IsStraight (p : List ℕ) (a g : N) : Type 0 where
+    fits : Fits g
+    first : p ≡ first_choices (length p)
+    place : at g ≡ at a + length p
+
+  straight-path : (p : List ℕ) (a g : N) → Fits a → end_from s a p ≡ Some g → IsStraight p a g
+  straight-path [] a g f e =
+      let same = one_end s a g a [] e (end_none s a) in record {
+        fits = subst Fits (sym same) f;
+        first = refl;
+        place = ap at same ∙ (let z : at a ≡ at a + 0 = omega arith in z);
+      }
+  straight-path (i ∷ p) a g f e =
+      let b = end_cons s a g i p e in
+      let n = goes.leads a b.by i f b.is in
+      let t = straight-path p b.by g n.1 b.gives in
+      let u = n.2 in
+      let v = t.place in
+      record { fits = t.fits; first = ap (λ k. k ∷ p) n.0 ∙ ap (λ q. 0 ∷ q) t.first; place = omega (arith, u, v) }
+
+  -- what is reached is of the kind, and there is one node at a place
+  pub reached-fits : (p : List ℕ) (g : N) → IsEnd s p g → Fits g
+  reached-fits p g e = (straight-path p s.start g goes.start e).fits
+
+  pub reached-one : (p q : List ℕ) (g h : N) → IsEnd s p g → IsEnd s q h → at g ≡ at h → g ≡ h
+  reached-one p q g h e f z =
+      let t = straight-path p s.start g goes.start e in
+      let u = straight-path q s.start h goes.start f in
+      let a = t.place in
+      let b = u.place in
+      let long : length p ≡ length q = omega (arith, a, b, z) in
+      one_end s s.start g h q (subst (λ w. IsEnd s w g) (t.first ∙ ap first_choices long ∙ sym u.first) e) f

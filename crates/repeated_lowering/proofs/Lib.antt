@@ -1,0 +1,6 @@
+pub mod Chain
+pub mod Made
+pub mod Irreversible
+pub mod Phases
+pub mod Printing
+pub mod Repeats

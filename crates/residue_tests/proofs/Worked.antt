@@ -1,0 +1,35 @@
+-- The worked residues are valid.
+use Rattle.std.proofs.Common.{◌≡◌, true, false, refl, sym, subst}
+use Rattle.ir_values.specs.Calls.{class_of}
+use Rattle.kept_items.specs.declared.target.Caps.{Caps}
+use Rattle.kept_items.specs.declared.target.Target.TheVariants as target
+use Rattle.residue.specs.declared.parts.Residue.{Residue}
+use Rattle.residue.specs.Valid.{Valid}
+use Rattle.residue_tests.specs.Worked as spec
+
+base_is_valid : Valid spec.base target.Base
+unfolding class_of
+base_is_valid = record { start = refl; jumps = refl; cases = refl; scopes = refl; allowed = refl; types = refl; operations = refl; outputs = refl; constants = refl; names = refl; calls = refl; labels = refl; numbers = refl; permits = refl; phases = refl }
+
+pub base-valid : (r : Residue) → r ≡ spec.base → Valid r target.Base
+base-valid r e = subst (λ r. Valid r target.Base) (sym e) base_is_valid
+
+abbrev pub ints : Caps
+ints = record { ints = true; switch = false; returns = false; loops = false }
+
+abbrev pub each : Caps
+each = record { ints = true; switch = true; returns = true; loops = true }
+
+ints_are_enough : Valid spec.adaptive (target.Adaptive ints)
+unfolding class_of
+ints_are_enough = record { start = refl; jumps = refl; cases = refl; scopes = refl; allowed = refl; types = refl; operations = refl; outputs = refl; constants = refl; names = refl; calls = refl; labels = refl; numbers = refl; permits = refl; phases = refl }
+
+pub ints-valid : (r : Residue) → r ≡ spec.adaptive → Valid r (target.Adaptive ints)
+ints-valid r e = subst (λ r. Valid r (target.Adaptive ints)) (sym e) ints_are_enough
+
+each_is_enough : Valid spec.adaptive (target.Adaptive each)
+unfolding class_of
+each_is_enough = record { start = refl; jumps = refl; cases = refl; scopes = refl; allowed = refl; types = refl; operations = refl; outputs = refl; constants = refl; names = refl; calls = refl; labels = refl; numbers = refl; permits = refl; phases = refl }
+
+pub each-valid : (r : Residue) → r ≡ spec.adaptive → Valid r (target.Adaptive each)
+each-valid r e = subst (λ r. Valid r (target.Adaptive each)) (sym e) each_is_enough

@@ -1,0 +1,160 @@
+//! The texts of modules.
+ghost use Rattle.residue.specs.Valid.{Valid};
+
+use crate::residues::{adaptive, base};
+use ir_printer::print;
+use ir_values::{Bytes, Memory};
+use kept_items::{Caps, Target};
+use residue::Residue;
+use residue_module::to_module;
+use std::alloc::Global;
+use std::test::Fail;
+
+const BASE: &str = "\
+%Qubit = type opaque
+%Result = type opaque
+
+@0 = internal constant [2 x i8] c\"r\\00\"
+
+define i64 @main() #0 {
+entry:
+  call void @__quantum__rt__initialize(i8* null)
+  br label %body
+
+body:
+  call void @__quantum__qis__h__body(%Qubit* inttoptr (i64 1 to %Qubit*))
+  br label %measurements
+
+measurements:
+  call void @__quantum__qis__mz__body(%Qubit* inttoptr (i64 1 to %Qubit*), %Result* null)
+  br label %output
+
+output:
+  call void @__quantum__rt__result_record_output(%Result* null, i8* getelementptr inbounds ([2 x i8], [2 x i8]* @0, i32 0, i32 0))
+  ret i64 0
+}
+
+declare void @__quantum__rt__initialize(i8*)
+
+declare void @__quantum__qis__h__body(%Qubit*)
+
+declare void @__quantum__qis__mz__body(%Qubit*, %Result*) #1
+
+declare void @__quantum__rt__result_record_output(%Result*, i8*)
+
+attributes #0 = { \"entry_point\" \"qir_profiles\"=\"base_profile\" \"output_labeling_schema\"=\"labeled\" \"required_num_qubits\"=\"2\" \"required_num_results\"=\"1\" \"extra\" }
+attributes #1 = { \"irreversible\" }
+
+!llvm.module.flags = !{!0, !1, !2, !3}
+
+!0 = !{i32 1, !\"qir_major_version\", i32 1}
+!1 = !{i32 7, !\"qir_minor_version\", i32 0}
+!2 = !{i32 1, !\"dynamic_qubit_management\", i1 false}
+!3 = !{i32 1, !\"dynamic_result_management\", i1 false}
+";
+
+const ADAPTIVE: &str = "\
+%Qubit = type opaque
+%Result = type opaque
+
+define i64 @main() #0 {
+entry:
+  call void @__quantum__rt__initialize(i8* null)
+  call void @__quantum__qis__mz__body(%Qubit* null, %Result* inttoptr (i64 1 to %Result*))
+  %v0 = call i1 @__quantum__rt__read_result(%Result* inttoptr (i64 1 to %Result*))
+  %v1 = icmp eq i1 %v0, true
+  br i1 %v1, label %b1, label %b2
+
+b1:
+  %v2 = call i1 @__quantum__rt__read_result(%Result* null)
+  %v3 = zext i1 %v2 to i64
+  br label %b2
+
+b2:
+  %v4 = phi i64 [ 5, %entry ], [ %v3, %b1 ]
+  call void @__quantum__rt__int_record_output(i64 %v4, i8* null)
+  ret i64 0
+}
+
+declare void @__quantum__rt__initialize(i8*)
+
+declare void @__quantum__qis__mz__body(%Qubit*, %Result*) #1
+
+declare i1 @__quantum__rt__read_result(%Result*)
+
+declare void @__quantum__rt__int_record_output(i64, i8*)
+
+attributes #0 = { \"entry_point\" \"qir_profiles\"=\"adaptive_profile\" \"output_labeling_schema\" \"required_num_qubits\"=\"1\" \"required_num_results\"=\"2\" }
+attributes #1 = { \"irreversible\" }
+
+";
+
+const INTS: &str = "\
+!llvm.module.flags = !{!0, !1, !2, !3, !4}
+
+!0 = !{i32 1, !\"qir_major_version\", i32 1}
+!1 = !{i32 7, !\"qir_minor_version\", i32 0}
+!2 = !{i32 1, !\"dynamic_qubit_management\", i1 false}
+!3 = !{i32 1, !\"dynamic_result_management\", i1 false}
+!4 = !{i32 1, !\"int_computations\", i1 true}
+";
+
+const EACH: &str = "\
+!llvm.module.flags = !{!0, !1, !2, !3, !4, !5, !6, !7}
+
+!0 = !{i32 1, !\"qir_major_version\", i32 1}
+!1 = !{i32 7, !\"qir_minor_version\", i32 0}
+!2 = !{i32 1, !\"dynamic_qubit_management\", i1 false}
+!3 = !{i32 1, !\"dynamic_result_management\", i1 false}
+!4 = !{i32 1, !\"int_computations\", i1 true}
+!5 = !{i32 1, !\"multiple_target_branching\", i1 true}
+!6 = !{i32 1, !\"multiple_return_points\", i1 true}
+!7 = !{i32 1, !\"backwards_branching\", i1 true}
+";
+
+/// The text of a residue's module.
+fn text_of(alloc: Global, residue: &Residue, target: Target) -> Result<Bytes, Memory>
+    requires { Valid residue.now target }
+{
+    let module = to_module(alloc, residue, target)?;
+    print(alloc, &module)
+}
+
+fn joined(alloc: Global, head: &str, tail: &str) -> Result<Bytes, Memory> {
+    let mut text = Bytes::new(alloc);
+    text.extend_from_slice(head.as_bytes())?;
+    text.extend_from_slice(tail.as_bytes())?;
+    Ok(text)
+}
+
+#[test]
+fn base_stands_in_four_blocks(rt: HostRuntime) -> Result<(), Fail> {
+    let alloc = rt.alloc();
+    let residue = base(alloc)?;
+    let text = text_of(alloc, &residue, Target::Base)?;
+    assert_eq!(rt; text.as_slice(), BASE.as_bytes());
+    Ok(())
+}
+
+#[test]
+fn a_block_for_each_part_and_a_flag_for_each_capability(rt: HostRuntime) -> Result<(), Fail> {
+    let alloc = rt.alloc();
+    let residue = adaptive(alloc)?;
+    let ints = Caps {
+        ints: true,
+        switch: false,
+        returns: false,
+        loops: false,
+    };
+    let each = Caps {
+        ints: true,
+        switch: true,
+        returns: true,
+        loops: true,
+    };
+    let text = text_of(alloc, &residue, Target::Adaptive(ints))?;
+    assert_eq!(rt; text, joined(alloc, ADAPTIVE, INTS)?);
+    let text = text_of(alloc, &residue, Target::Adaptive(each))?;
+    assert_eq!(rt; text, joined(alloc, ADAPTIVE, EACH)?);
+    Ok(())
+}

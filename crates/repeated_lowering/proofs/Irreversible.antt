@@ -40,7 +40,7 @@ use Rattle.profiled_residue.proofs.CallRules.{base-permits}
 
 -- ---- texts
 
-same-names : (a b : List ℕ) → same_text a b ≡ true → a ≡ b
+pub same-names : (a b : List ℕ) → same_text a b ≡ true → a ≡ b
 same-names a b e = (pointwise_decides unsigned_Decides a b).0 e
 
 itself : (a : List ℕ) → same_text a a ≡ true

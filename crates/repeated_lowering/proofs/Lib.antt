@@ -4,3 +4,4 @@ pub mod Irreversible
 pub mod Phases
 pub mod Printing
 pub mod Repeats
+pub mod Premises

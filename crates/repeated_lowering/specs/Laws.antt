@@ -1,6 +1,7 @@
 -- Lowering what was lowered.
 use Rattle.std.specs.Prelude.{◌≡◌, ℕ, true, Bool, Some, List, nat_eq, slice_get}
 use Rattle.std.specs.List.{list_all, starts_with}
+use Rattle.ir_module.specs.declared.tree.Function.{Function}
 use Rattle.ir_values.specs.declared.int.Width.TheVariants.{W64}
 use Rattle.ir_values.specs.declared.value.Value.TheVariants as value
 use Rattle.ir_values.specs.Arithmetic.{modulo}
@@ -9,6 +10,7 @@ use Rattle.ir_values.specs.Names.{instruction_prefix}
 use Rattle.kept_items.specs.declared.target.Target.TheVariants.{Base}
 use Rattle.kept_items.specs.declared.val.Val.TheVariants.{Known}
 use Rattle.lowered_program.specs.Residues.{residue_of}
+use Rattle.lowered_runs.specs.Made.{CodesFit}
 use Rattle.path_search.specs.Explored.{Explored}
 use Rattle.profiled_residue.specs.Premises.{FitsProfile}
 use Rattle.residue.specs.declared.parts.Part.{Part}
@@ -46,3 +48,14 @@ BaseIsRepeated =
     → p.results ≡ required_results p.m limit
     → Explored (search_of p budget) (Carries p) nodes
     → printed (residue_of p (printed_entry r Base) nodes) Base ≡ printed r Base
+
+-- the residue that is made of the configurations of a Base program keeps this, where it is valid and fits
+abbrev pub MadeIsRepeatable : Type 0
+MadeIsRepeatable =
+    (p : Program) (f : Function) (nodes : List Node) (limit : ℕ)
+    → p.target ≡ Base
+    → CodesFit nodes
+    → Valid (residue_of p f nodes) Base
+    → FitsProfile (residue_of p f nodes) Base
+    → FitsLimit (residue_of p f nodes) limit
+    → IsRepeatable (residue_of p f nodes) limit

@@ -62,7 +62,7 @@ use Rattle.settled_adaptive.proofs.AdaptiveTurns.{AllHave, s}
 use Rattle.settled_adaptive.proofs.Names.{keep-kept, kept_names, look-kept, put-kept, shape-keep, shape-numbered, shape-put}
 
 module _ (r : Residue) (caps : Caps) (ok : Valid r (Adaptive caps)) (undecided : all_undecided r ≡ true) (live : Point → LocalId → Bool)
-    (tells : TellsLive (printed r (Adaptive caps)) live) (bounded : (p : Point) (y : LocalId) → live p y ≡ true → y.0 < length (names_of r.parts)) where
+    (tells : TellsLive (printed r (Adaptive caps)) live) (bounded : (n i : ℕ) (y : LocalId) → live (in_entry n i) y ≡ true → y.0 < length (names_of r.parts)) where
   abbrev t : Target
   t = Adaptive caps
 
@@ -118,7 +118,7 @@ module _ (r : Residue) (caps : Caps) (ok : Valid r (Adaptive caps)) (undecided :
     pub operands-have : (os : List Operand) → LiveOperands live P os → AllHave r caps ok items-undecided live w fresh os
     operands-have [] h = tt
     operands-have (operand.Const v ∷ os) h = (tt, operands-have os h.1)
-    operands-have (operand.Local x ∷ os) h = (let lt = bounded P x h.0 in look-kept (live P) x.0 0 0 N (omega arith) (omega (arith, lt)) h.0, operands-have os h.1)
+    operands-have (operand.Local x ∷ os) h = (let lt = bounded n j x h.0 in look-kept (live P) x.0 0 0 N (omega arith) (omega (arith, lt)) h.0, operands-have os h.1)
 
     -- ---- on to the next point
 
@@ -185,7 +185,7 @@ module _ (r : Residue) (caps : Caps) (ok : Valid r (Adaptive caps)) (undecided :
 
       live-dynamic : (a : Val) → varies a ≡ true → LiveEntry live P (Some (operand_of ws a)) → (e : Dyn) × (val_of w.top.names (operand_of ws a) ≡ Some (Dynamic e))
       live-dynamic (Known v) h l = cc
-      live-dynamic (Dynamic d) h l = let lt = bounded P (local (ws.name_of d.0)) l in look-kept (live P) (ws.name_of d.0) 0 0 N (omega arith) (omega (arith, lt)) l
+      live-dynamic (Dynamic d) h l = let lt = bounded n j (local (ws.name_of d.0)) l in look-kept (live P) (ws.name_of d.0) 0 0 N (omega arith) (omega (arith, lt)) l
 
       module _ (b : BlockId) (target : IsTarget b) where
         abbrev j' : Jump

@@ -123,7 +123,7 @@ reaches-itself : (g : Graph) (u v : ℕ) → u ≡ v → Reaches g u v
 reaches-itself g u v e = record { walk = []; is = e }
 
 module _ (r : Residue) (caps : Caps) (ok : Valid r (Adaptive caps)) (profile : FitsProfile r (Adaptive caps)) (undecided : all_undecided r ≡ true) (live : Point → LocalId → Bool) (qubits results : ℕ)
-    (tells : TellsLive (printed r (Adaptive caps)) live) (bounded : (p : Point) (y : LocalId) → live p y ≡ true → y.0 < length (names_of r.parts)) (starting : (y : ℕ) → live (in_entry 0 0) (local y) ≡ false) where
+    (tells : TellsLive (printed r (Adaptive caps)) live) (bounded : (n i : ℕ) (y : LocalId) → live (in_entry n i) y ≡ true → y.0 < length (names_of r.parts)) (starting : (y : ℕ) → live (in_entry 0 0) (local y) ≡ false) where
   abbrev pub program : Program
   program = record { m = printed r (Adaptive caps); target = Adaptive caps; live = live; entry = record { 0 = 0 }; qubits = qubits; results = results }
 

@@ -68,7 +68,7 @@ both-hold true b e f = f
 both-hold false b e f = absurd (clash e)
 
 module _ (r : Residue) (caps : Caps) (ok : Valid r (Adaptive caps)) (undecided : all_undecided r ≡ true) (live : Point → LocalId → Bool)
-    (tells : TellsLive (printed r (Adaptive caps)) live) (bounded : (p : Point) (y : LocalId) → live p y ≡ true → y.0 < length (names_of r.parts)) (n j : ℕ) where
+    (tells : TellsLive (printed r (Adaptive caps)) live) (bounded : (n i : ℕ) (y : LocalId) → live (in_entry n i) y ≡ true → y.0 < length (names_of r.parts)) (n j : ℕ) where
   abbrev ws : Words
   ws = words r
 

@@ -17,9 +17,9 @@ use Rattle.settled_adaptive.specs.Undecided.{all_undecided}
 use Rattle.settled_lowering.specs.Laws.{IsPrinted}
 use Rattle.unroller.specs.Programs.{Program, search_of}
 
--- names that are live are those of the residue, and none is live where the entry begins
+-- names that are live in the entry are those of the residue, and none is live where the entry begins
 pub record LivesWithin (r : Residue) (live : Point → LocalId → Bool) : Type 0 where
-  pub bounded : (p : Point) (y : LocalId) → live p y ≡ true → y.0 < length (names_of r.parts)
+  pub bounded : (n i : ℕ) (y : LocalId) → live (in_entry n i) y ≡ true → y.0 < length (names_of r.parts)
   pub starting : (y : ℕ) → live (in_entry 0 0) (local y) ≡ false
 
 -- an Adaptive program that was lowered is accepted within as many configurations as it has instructions that aren't phis

@@ -1,0 +1,4 @@
+pub mod Rows
+pub mod PartRows
+pub mod Within
+pub mod Walks

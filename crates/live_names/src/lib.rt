@@ -1,0 +1,4 @@
+//! Names that are live in a printed residue.
+#![tactic(auto)]
+
+pub mod laws;

@@ -16,10 +16,10 @@ if_new false caps = Some caps
 -- with the capability of this name
 abbrev pub with_cap : List ℕ → Caps → Option Caps
 with_cap name caps =
-    if same_text name (codes "ints") then if_new caps.ints (record { ints = true; switch = caps.switch; returns = caps.returns; loops = caps.loops })
-    else (if same_text name (codes "switch") then if_new caps.switch (record { ints = caps.ints; switch = true; returns = caps.returns; loops = caps.loops })
-    else (if same_text name (codes "returns") then if_new caps.returns (record { ints = caps.ints; switch = caps.switch; returns = true; loops = caps.loops })
-    else (if same_text name (codes "loops") then if_new caps.loops (record { ints = caps.ints; switch = caps.switch; returns = caps.returns; loops = true })
+    if same_text name (codes "ints") then if_new caps.ints (record caps { ints = true })
+    else (if same_text name (codes "switch") then if_new caps.switch (record caps { switch = true })
+    else (if same_text name (codes "returns") then if_new caps.returns (record caps { returns = true })
+    else (if same_text name (codes "loops") then if_new caps.loops (record caps { loops = true })
     else None)))
 
 -- with the capabilities of all these names, one after the other

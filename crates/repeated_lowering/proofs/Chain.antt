@@ -69,10 +69,10 @@ module _ (r : Residue) (ok : Valid r Base) (fits : FitsProfile r Base) (live : P
     pub item : x.item ≡ outcome.Exits (code.Known (signed returned))
     pub comes : rest x.node ≡ []
 
-  abbrev pub Row : ℕ → List Node → Type 0
-  Row i [] = ⊥
-  Row i (x ∷ []) = IsEnding x
-  Row i (x ∷ y ∷ xs) = Leads i x y × Row (suc i) (y ∷ xs)
+  abbrev pub FollowOn : ℕ → List Node → Type 0
+  FollowOn i [] = ⊥
+  FollowOn i (x ∷ []) = IsEnding x
+  FollowOn i (x ∷ y ∷ xs) = Leads i x y × FollowOn (suc i) (y ∷ xs)
 
   module _ (nodes : List Node) (explored : Explored s (Carries (program r ok fits live qubits results)) nodes) where
     abbrev node_of : Node → Config
@@ -219,10 +219,10 @@ module _ (r : Residue) (ok : Valid r Base) (fits : FitsProfile r Base) (live : P
         omega (arith, lt, long, none)
 
     -- the configurations from number i on are a row
-    row-from : (i : ℕ) (x : Node) (xs : List Node) → ((j : ℕ) → slice_get (x ∷ xs) j ≡ slice_get nodes (i + j)) → Row i (x ∷ xs)
+    row-from : (i : ℕ) (x : Node) (xs : List Node) → ((j : ℕ) → slice_get (x ∷ xs) j ≡ slice_get nodes (i + j)) → FollowOn i (x ∷ xs)
     row-from i x [] h = by (linked i x (sym (h 0 ∙ ap (slice_get nodes) (let z : i + 0 ≡ i = omega arith in z))))
       where
-        by : Linked i x → Row i (x ∷ [])
+        by : Linked i x → FollowOn i (x ∷ [])
         by (leads_to y e l) = absurd (clash (h 1 ∙ ap (slice_get nodes) (let z : i + 1 ≡ suc i = omega arith in z) ∙ e))
           where
             clash : None ≡ Some y → ⊥
@@ -238,10 +238,10 @@ module _ (r : Residue) (ok : Valid r Base) (fits : FitsProfile r Base) (live : P
         by here next (ends_here d) = absurd (nothing-follows i x y here d next)
 
     -- all are
-    pub row : Row 0 nodes
+    pub row : FollowOn 0 nodes
     row = by nodes refl
       where
-        by : (xs : List Node) → xs ≡ nodes → Row 0 xs
+        by : (xs : List Node) → xs ≡ nodes → FollowOn 0 xs
         by [] e = absurd (nothing (ap (λ l. slice_get l 0) e ∙ first.1))
           where
             nothing : None ≡ Some first.0 → ⊥

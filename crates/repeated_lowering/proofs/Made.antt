@@ -40,7 +40,7 @@ use Rattle.profiled_residue.specs.Premises.{FitsProfile}
 use Rattle.settled_lowering.proofs.BaseBlocks.{part}
 use Rattle.settled_lowering.proofs.BaseTurns.{settled}
 use Rattle.settled_lowering.proofs.Turns.{read, reads_of}
-use Rattle.repeated_lowering.proofs.Chain.{Leads, Row, rest}
+use Rattle.repeated_lowering.proofs.Chain.{FollowOn, Leads, rest}
 
 -- ---- items of known values keep them
 
@@ -97,7 +97,7 @@ map-both f (x ∷ xs) ys = ap (λ l. f x ∷ l) (map-both f xs ys)
 
 module _ (r : Residue) (ok : Valid r Base) (fits : FitsProfile r Base) (live : Point → LocalId → Bool) (qubits results budget : ℕ) where
   abbrev IsRow : ℕ → List Node → Type 0
-  IsRow = Row r ok fits live qubits results budget
+  IsRow = FollowOn r ok fits live qubits results budget
 
   abbrev left : Config → List Item
   left = rest r ok fits live qubits results budget

@@ -10,4 +10,5 @@ mod shot;
 
 pub use last::{Last, Schema, StopName};
 pub use line::ShotStop;
+pub use record_line::cause_name;
 pub use shot::{write_head, write_shot, write_trace};

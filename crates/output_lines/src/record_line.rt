@@ -165,7 +165,8 @@ fn stop_name(name: StopName) -> &'static [u8]
     }
 }
 
-fn cause_name(cause: Cause) -> &'static [u8]
+/// The name of a cause, as a run's last line and a refusal tell it.
+pub fn cause_name(cause: Cause) -> &'static [u8]
     ensures { result.now ≡ spec.cause_name cause }
 {
     match cause {

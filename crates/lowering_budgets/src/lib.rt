@@ -1,0 +1,4 @@
+//! What the budget of lowering counts.
+#![tactic(auto)]
+
+pub mod laws;

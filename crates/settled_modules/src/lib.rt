@@ -1,0 +1,4 @@
+//! A lowered module is lowered again.
+#![tactic(auto)]
+
+pub mod laws;

@@ -1,0 +1,4 @@
+pub mod Nearby
+pub mod Entered
+pub mod Edges
+pub mod Fused

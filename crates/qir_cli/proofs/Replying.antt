@@ -1,89 +1,55 @@
 -- The reply of a command from what its stages said.
 use Rattle.std.proofs.Common.{◌≡◌, ◌∙◌, ℕ, ◌<◌, ◌≤◌, Bool, true, false, List, length, refl, ap, sym, subst, arith, if◌then◌else◌}
-use Rattle.std.specs.Prelude.{nat_le, IfOk, Result, Ok, Err, Option, Some, None}
+use Rattle.std.specs.Prelude.{nat_le, IfOk, Result, Ok, Err}
+use Rattle.ir_grammar.specs.declared.tree.ItemSyntax.{ItemSyntax}
 use Rattle.ir_module.specs.declared.tree.Module.{Module}
+use Rattle.ir_module.specs.Numbered.{Numbered}
+use Rattle.ir_module.specs.Printable.{are_bytes, IsPrintable}
+use Rattle.ir_names.specs.Module.{module_of}
 use Rattle.ir_reader.specs.declared.parsed.Parsed.{Parsed}
 use Rattle.ir_reader.specs.declared.parsed.ReadStop.{ReadStop}
 use Rattle.ir_reader.specs.declared.parsed.ReadStop.TheVariants as read
 use Rattle.ir_reader.specs.Answers.{MayStopWith}
 use Rattle.ir_reader.specs.Laws.{OneAnswer}
+use Rattle.ir_reader.proofs.InOrder.{reads-printable}
+use Rattle.ir_tokens.specs.declared.token.Token.{Token}
 use Rattle.ir_values.specs.declared.memory.Memory.{Memory as NoMemory}
-use Rattle.type_check.specs.Laws.{HasOneFirstFault, TypedOrFaulty}
+use Rattle.admission.specs.Admitted.{greatest_required}
 use Rattle.check_command.specs.Laws.{ReportsAreOne, ReportsExist}
+use Rattle.lowering_verdicts.specs.Laws.{LoweringHasAnAnswer, LoweringHasOneAnswer}
+use Rattle.read_modules.specs.Read.{IsRead}
+use Rattle.type_check.specs.Faults.{Typed}
+use Rattle.type_check.specs.Laws.{HasOneFirstFault, TypedOrFaulty}
 use Rattle.qir_cli.specs.Admission.{Admits}
-use Rattle.qir_cli.specs.BaseText.{base_text}
 use Rattle.qir_cli.specs.code.Stops.{Meets, stop_of}
 use Rattle.qir_cli.specs.declared.command.Command.{Command}
-use Rattle.qir_cli.specs.declared.command.Command.TheVariants.{Print, Check, LowerBase}
-use Rattle.qir_cli.specs.declared.refusal.Fault.TheVariants.{TooLong, Lower}
-use Rattle.qir_cli.specs.declared.refusal.LowerCode.TheVariants.{FirstPath, Budget}
+use Rattle.qir_cli.specs.declared.command.Command.TheVariants.{Print, Check, Lower}
+use Rattle.qir_cli.specs.declared.refusal.Fault.TheVariants.{TooLong}
 use Rattle.qir_cli.specs.declared.refusal.Refusal.{Refusal}
 use Rattle.qir_cli.specs.declared.refusal.Stop.{Stop}
 use Rattle.qir_cli.specs.declared.refusal.Stop.TheVariants as stop
 use Rattle.qir_cli.specs.declared.reply.Reply.{Reply}
-use Rattle.qir_cli.specs.declared.status.Status.TheVariants.{Done}
 use Rattle.qir_cli.specs.Laws.{HasOneText, RepliesAreOne, RepliesExist}
-use Rattle.qir_cli.specs.OneBlock.{one_block}
 use Rattle.qir_cli.specs.Reading.{Reads, ReadsAs}
 use Rattle.qir_cli.specs.Refusals.{at_start}
-use Rattle.qir_cli.specs.Replies.{ComesTo, Does, DoesAdmitted, DoesText, instructions, limit, Lowers, place_in, refused, Replies, reply_of, within_budget, within_limit}
+use Rattle.qir_cli.specs.Replies.{ComesTo, Does, DoesAdmitted, DoesText, limit, refused, Replies, reply_of, within_limit}
 use Rattle.qir_cli.specs.Stages.{Is, Then, refuses, leads_on, AtMostOne, AtLeastOne}
 use Rattle.qir_cli.proofs.Admitting.{admits-one, admits-some}
-use Rattle.qir_cli.proofs.BaseBehaviour.{lowered-is}
 use Rattle.qir_cli.proofs.Checked.{checks-one, checks-some}
+use Rattle.qir_cli.proofs.Lowers.{lowers-one, lowers-some}
 use Rattle.qir_cli.proofs.Reading.{reads-one, reads-some, refused-misreads}
 use Rattle.qir_cli.proofs.Stages.{is-one, is-some, never-both, same-given, then-one, then-some}
-use Rattle.ir_module.specs.Entry.{Entry}
 
--- what is within the budget
-within-some : (budget : ℕ) (parsed : Parsed) (found : Option Entry) (e : Entry) → within_budget budget parsed found ≡ Ok e → (found ≡ Some e) × (instructions e.function ≤ budget)
-within-some budget parsed None e h = never-both e (at_start (Lower FirstPath)) (sym h)
-within-some budget parsed (Some d) e h = by (nat_le (instructions d.function) budget) refl h
-  where
-    why : Refusal
-    why = record { fault = Lower Budget; place = place_in parsed d.number budget }
+module _ (one : OneAnswer) (single : HasOneFirstFault) (reports : ReportsAreOne) (lowering : LoweringHasOneAnswer) where
+  does-one : (command : Command) (parsed : Parsed) → HasOneText command → AtMostOne (DoesAdmitted command parsed)
+  does-one Print parsed _ = is-one _
+  does-one (Check profile) parsed _ = checks-one reports profile parsed
+  does-one (Lower t budget) parsed _ = lowers-one lowering t budget parsed
 
-    by : (b : Bool) → nat_le (instructions d.function) budget ≡ b → (if b then Ok d else Err why) ≡ Ok e → (Some d ≡ Some e) × (instructions e.function ≤ budget)
-    by true fits h =
-        let same : d ≡ e = same-given d e h in
-        (ap Some same, subst (λ d. instructions d.function ≤ budget) same (grind (arith, fits)))
-    by false fits h = never-both e why (sym h)
-
--- the last stage of `lower base`
-pub lowers-replies : (budget : ℕ) (parsed : Parsed) (e : Entry) (reply : Reply) → within_budget budget parsed (one_block parsed.module) ≡ Ok e
-    → reply.status ≡ Done → reply.text ≡ base_text parsed.module e.function → Lowers budget parsed.module e (Ok reply)
-lowers-replies budget parsed e reply h status text =
-    let w = within-some budget parsed (one_block parsed.module) e h in
-    record { status = status; text = text; lowered = lowered-is parsed.module e budget w.0 w.1 }
-
-lowers-one : (budget : ℕ) (m : Module) (e : Entry) → AtMostOne (Lowers budget m e)
-lowers-one budget m e (Ok r) (Ok s) a b =
-    ap (λ status. Ok (record { status = status; text = r.text })) (a.status ∙ sym b.status)
-    ∙ ap (λ text. Ok (record { status = s.status; text = text })) (a.text ∙ sym b.text)
-lowers-one budget m e (Ok r) (Err w) a b = absurd b
-lowers-one budget m e (Err v) s a b = absurd a
-
-lowers-some : (budget : ℕ) (parsed : Parsed) (e : Entry) → Is (within_budget budget parsed (one_block parsed.module)) (Ok e) → AtLeastOne (Lowers budget parsed.module e)
-lowers-some budget parsed e h =
-    (Ok (record { status = Done; text = base_text parsed.module e.function }), lowers-replies budget parsed e _ (sym h) refl refl)
-
-does-one : ReportsAreOne → (command : Command) (parsed : Parsed) → HasOneText command → AtMostOne (DoesAdmitted command parsed)
-does-one reported Print parsed _ = is-one _
-does-one reported (Check profile) parsed _ = checks-one reported profile parsed
-does-one reported (LowerBase budget) parsed _ =
-    then-one (Is (within_budget budget parsed (one_block parsed.module))) (Lowers budget parsed.module) (is-one _) (lowers-one budget parsed.module)
-
-does-some : ReportsExist → (command : Command) (parsed : Parsed) → AtLeastOne (DoesAdmitted command parsed)
-does-some reported Print parsed = is-some _
-does-some reported (Check profile) parsed = checks-some reported profile parsed
-does-some reported (LowerBase budget) parsed =
-    then-some (Is (within_budget budget parsed (one_block parsed.module))) (Lowers budget parsed.module) (is-some _) (lowers-some budget parsed)
-
-module _ (one : OneAnswer) (single : HasOneFirstFault) (reported : ReportsAreOne) where
   text-one : (command : Command) (text : List ℕ) → HasOneText command → AtMostOne (DoesText command text)
   text-one command text has =
       then-one (Reads text) (Does command) (reads-one one text)
-      (λ parsed. then-one (Admits parsed) (DoesAdmitted command) (admits-one single parsed) (λ given. does-one reported command given has))
+      (λ parsed. then-one (Admits parsed) (DoesAdmitted command) (admits-one single parsed) (λ given. does-one command given has))
 
   comes-one : (command : Command) (bytes : List ℕ) → HasOneText command → AtMostOne (ComesTo command bytes)
   comes-one command bytes has = then-one (Is (within_limit bytes)) (DoesText command) (is-one _) (λ text. text-one command text has)
@@ -91,17 +57,42 @@ module _ (one : OneAnswer) (single : HasOneFirstFault) (reported : ReportsAreOne
   pub replies-one : RepliesAreOne
   replies-one command bytes has r s a b = a.2 ∙ ap reply_of (comes-one command bytes has a.0 b.0 a.1 b.1) ∙ sym b.2
 
-module _ (one : OneAnswer) (judged : TypedOrFaulty) (reported : ReportsExist) where
-  text-some : (command : Command) (text : List ℕ) → AtLeastOne (DoesText command text)
-  text-some command text =
-      then-some (Reads text) (Does command) (reads-some one text)
-      (λ parsed _. then-some (Admits parsed) (DoesAdmitted command) (admits-some judged parsed) (λ given _. does-some reported command given))
+-- what is within the limit
+within-given : (bytes text : List ℕ) → Ok text ≡ within_limit bytes → (text ≡ bytes) × (length bytes ≤ limit)
+within-given bytes text e = by (nat_le (length bytes) limit) refl e
+  where
+    by : (short : Bool) → nat_le (length bytes) limit ≡ short → Ok text ≡ (if short then Ok bytes else Err (at_start TooLong)) → (text ≡ bytes) × (length bytes ≤ limit)
+    by true short e = (same-given text bytes e, grind (arith, short))
+    by false long e = never-both text (at_start TooLong) e
 
-  comes-some : (command : Command) (bytes : List ℕ) → AtLeastOne (ComesTo command bytes)
-  comes-some command bytes = then-some (Is (within_limit bytes)) (DoesText command) (is-some _) (λ text _. text-some command text)
+-- a module that is read is in order
+abbrev pub ReadInOrder : Type 0
+ReadInOrder = (text : List ℕ) (tokens : List Token) (items : List ItemSyntax) → IsRead text tokens items → IsPrintable (module_of text items)
+
+module _ (one : OneAnswer) (judged : TypedOrFaulty) (reports : ReportsExist) (lowering : LoweringHasAnAnswer) (in-order : ReadInOrder) where
+  does-some : (command : Command) (parsed : Parsed) → Numbered parsed.module → Typed parsed.module greatest_required → AtLeastOne (DoesAdmitted command parsed)
+  does-some Print parsed numbered typed = is-some _
+  does-some (Check profile) parsed numbered typed = checks-some reports profile parsed
+  does-some (Lower t budget) parsed numbered typed = lowers-some lowering t budget parsed numbered typed
+
+  admitted-some : (command : Command) (parsed given : Parsed) → Numbered parsed.module → Admits parsed (Ok given) → AtLeastOne (DoesAdmitted command given)
+  admitted-some command parsed given numbered a =
+      does-some command given (subst (λ (p : Parsed). Numbered p.module) (sym a.same) numbered) (subst (λ (p : Parsed). Typed p.module greatest_required) (sym a.same) a.typed)
+
+  text-some : (command : Command) (text : List ℕ) → are_bytes text ≡ true → length text ≤ limit → AtLeastOne (DoesText command text)
+  text-some command text bytes short =
+      then-some (Reads text) (Does command) (reads-some one text)
+      (λ parsed reads.
+      let numbered = (reads-printable in-order text bytes (omega (arith, short)) (Ok parsed) reads.spells).numbered in
+      then-some (Admits parsed) (DoesAdmitted command) (admits-some judged parsed) (λ given admits. admitted-some command parsed given numbered admits))
+
+  comes-some : (command : Command) (bytes : List ℕ) → are_bytes bytes ≡ true → AtLeastOne (ComesTo command bytes)
+  comes-some command bytes h =
+      then-some (Is (within_limit bytes)) (DoesText command) (is-some _)
+      (λ text within. let w = within-given bytes text within in text-some command text (subst (λ t. are_bytes t ≡ true) (sym w.0) h) (subst (λ t. length t ≤ limit) (sym w.0) w.1))
 
   pub replies-some : RepliesExist
-  replies-some command bytes = let c = comes-some command bytes in (reply_of c.0, (c.0, c.1, refl))
+  replies-some command bytes h = let c = comes-some command bytes h in (reply_of c.0, (c.0, c.1, refl))
 
 -- a text within the limit goes on to the next stage
 pub within-limit-is : (bytes : List ℕ) → length bytes ≤ limit → Is (within_limit bytes) (Ok bytes)

@@ -3,16 +3,15 @@ use Rattle.std.proofs.Common.{◌≡◌, ◌∙◌, ℕ, ◌+◌, ◌<◌, List,
 use Rattle.std.specs.Prelude.{Option, None, Some, Result, Ok, Err, IfOk, IfSome}
 use Rattle.std.specs.Option.{option_map}
 use Rattle.std.proofs.lemmas.List.{take-append-drop, length-replicate, length-take}
-use Rattle.ir_module.specs.declared.tree.Module.{Module}
-use Rattle.ir_module.specs.Entry.{Entry}
 use Rattle.ir_reader.specs.declared.parsed.Parsed.{Parsed}
 use Rattle.ir_values.specs.Counts.{Rose}
 use Rattle.ir_values.specs.declared.memory.Memory.{Memory as NoMemory}
 use Rattle.qir_ports.specs.Known.{GivesTooMany, GivesUpTo}
-use Rattle.qir_cli.specs.code.Stops.{Writes, whole, in_part, Sends}
+use Rattle.qir_cli.specs.code.Stops.{KeepsWell, Writes, whole, in_part, Sends}
+use Rattle.qir_cli.specs.Headline.{WritesKept}
 use Rattle.qir_cli.specs.Commands.{command_of}
 use Rattle.qir_cli.specs.declared.command.Command.{Command}
-use Rattle.qir_cli.specs.declared.command.Command.TheVariants.{Print, Check, LowerBase}
+use Rattle.qir_cli.specs.declared.command.Command.TheVariants.{Print, Check, Lower}
 use Rattle.qir_cli.specs.declared.refusal.Fault.TheVariants.{TooLong}
 use Rattle.qir_cli.specs.declared.refusal.Refusal.{Refusal}
 use Rattle.qir_cli.specs.declared.reply.Reply.{Reply}
@@ -20,21 +19,17 @@ use Rattle.qir_cli.specs.declared.status.Status.{Status}
 use Rattle.qir_cli.specs.declared.status.Status.TheVariants.{Done, Refused, BadWords, Stopped, ReadFault, WriteFault, Memory}
 use Rattle.qir_cli.specs.Outcomes.{Answered, HasReply, IsAnswered, IsUnwritten, PartlyAnswered}
 use Rattle.qir_cli.specs.Refusals.{at_start}
-use Rattle.qir_cli.specs.Replies.{ComesTo, DoesAdmitted, limit, Lowers, Replies, reply_of, too_long}
+use Rattle.qir_cli.specs.Replies.{ComesTo, DoesAdmitted, limit, Replies, reply_of, too_long}
 use Rattle.qir_cli.specs.Stages.{refuses, leads_on}
 use Rattle.qir_cli.proofs.Checked.{checks-answered}
+use Rattle.qir_cli.proofs.Lowers.{lowers-answered}
 use Rattle.qir_cli.proofs.Replying.{too-long-is}
 
 -- what a command comes to has one of the statuses of replies
-lowers-answered : (budget : ℕ) (m : Module) (e : Entry) (end : Result Reply Refusal) → Lowers budget m e end → IsAnswered (reply_of end).status
-lowers-answered budget m e (Ok reply) l = subst IsAnswered (sym l.status) tt
-lowers-answered budget m e (Err why) l = absurd l
-
 does-answered : (command : Command) (parsed : Parsed) (end : Result Reply Refusal) → DoesAdmitted command parsed end → IsAnswered (reply_of end).status
 does-answered Print parsed end d = subst (λ end. IsAnswered (reply_of end).status) (sym d) tt
 does-answered (Check profile) parsed end d = checks-answered profile parsed end d
-does-answered (LowerBase budget) parsed end (refuses why f) = tt
-does-answered (LowerBase budget) parsed end (leads_on e end' f last) = lowers-answered budget parsed.module e end' last
+does-answered (Lower target budget) parsed end d = lowers-answered target budget parsed end d
 
 comes-answered : (command : Command) (bytes : List ℕ) (end : Result Reply Refusal) → ComesTo command bytes end → IsAnswered (reply_of end).status
 comes-answered command bytes end (refuses why f) = tt
@@ -140,3 +135,17 @@ pub GivesUpTo-too_many : (most : ℕ) (before now : Option (List ℕ)) → Gives
 GivesUpTo-too_many most None now gives = ([], omega arith, ap (option_map (λ rest. [] ++ rest)) (sym gives.rest))
 GivesUpTo-too_many most (Some all) now gives =
     (take (most + 1) all, omega (arith, length-take (most + 1) all), ap Some (sym (take-append-drop (most + 1) all)) ∙ sym (ap (option_map (λ rest. take (most + 1) all ++ rest)) gives.rest))
+
+-- ---- what is kept by what was written
+
+pub sent-kept : (words : List (List ℕ)) (command : Command) → command_of words ≡ Some command → (left : Option (List ℕ)) (bytes : List ℕ) → IfSome left (λ all. all ≡ bytes)
+    → (taken taken' : Option (List ℕ)) (faults faults' : ℕ) (unchanged : Type 0) (r : Result Reply NoMemory) (s : Status) → IfOk r (KeepsWell command bytes)
+    → Sends r taken taken' faults faults' unchanged s → s ≡ Done → WritesKept words left taken taken'
+sent-kept words command is left bytes input taken taken' faults faults' unchanged (Ok r) s keeps (whole takes) e =
+    record { command = command; is_command = is; bytes = bytes; input = input; text = r.text; written = takes; keeps = keeps e }
+sent-kept words command is left bytes input taken taken' faults faults' unchanged (Ok r) s keeps (in_part few takes rose) e = cc
+sent-kept words command is left bytes input taken taken' faults faults' unchanged (Err x) s keeps sends e = cc sends.1
+
+pub too-long-kept : (command : Command) (bytes : List ℕ) (r : Result Reply NoMemory) → IfOk r (λ r. r ≡ too_long) → IfOk r (KeepsWell command bytes)
+too-long-kept command bytes (Ok r) is = λ e. let f : Refused ≡ Done = sym (ap (λ (r : Reply). r.status) is) ∙ e in cc
+too-long-kept command bytes (Err e) is = is

@@ -1,15 +1,18 @@
 -- The words of commands.
-use Rattle.std.specs.Prelude.{ℕ, ◌&&◌, nat_le, if◌then◌else◌, Option, None, Some, List, [], ◌∷◌, map, codes}
+use Rattle.std.specs.Prelude.{ℕ, ◌≤◌, ◌&&◌, nat_le, if◌then◌else◌, Option, None, Some, List, [], ◌∷◌, map, codes, ⊤}
 use Rattle.std.specs.declared.string.String.{String}
 use Rattle.std.specs.String.{string_bytes}
 use Rattle.std.specs.Option.{option_map}
+use Rattle.capability_words.specs.Words.{caps_of}
+use Rattle.check_command.specs.declared.profile.Profile.TheVariants as profile
 use Rattle.ir_values.specs.Calls.{same_text}
 use Rattle.ir_values.specs.Decimals.{decimal_value}
+use Rattle.kept_items.specs.declared.target.Caps.{Caps}
+use Rattle.kept_items.specs.declared.target.Target.TheVariants as target
 use Rattle.profile_rules.specs.declared.finding.Form.{Form}
 use Rattle.profile_rules.specs.declared.finding.Form.TheVariants.{Strict, Chain}
-use Rattle.check_command.specs.declared.profile.Profile.TheVariants.{Base, Adaptive}
 use Rattle.qir_cli.specs.declared.command.Command.{Command}
-use Rattle.qir_cli.specs.declared.command.Command.TheVariants.{Print, Check, LowerBase}
+use Rattle.qir_cli.specs.declared.command.Command.TheVariants.{Print, Check, Lower}
 
 -- the bytes of the words
 abbrev pub texts_of : {Z : Type 0} → List (String Z) → List (List ℕ)
@@ -28,6 +31,13 @@ abbrev pub form_word : List ℕ → Option Form
 form_word word =
     if same_text word (codes "strict") then Some Strict else (if same_text word (codes "chain") then Some Chain else None)
 
+-- the most configurations of a lowering
+abbrev pub greatest_budget : ℕ
+greatest_budget = 1000000
+
+abbrev pub budget_word : List ℕ → Option ℕ
+budget_word word = number_word 1 greatest_budget word
+
 -- the commands, from the words behind the first
 abbrev pub print_of : List (List ℕ) → Option Command
 print_of [] = Some Print
@@ -35,15 +45,21 @@ print_of (word ∷ words) = None
 
 abbrev pub check_of : List (List ℕ) → Option Command
 check_of [] = None
-check_of (profile ∷ []) = if same_text profile (codes "adaptive") then Some (Check Adaptive) else None
-check_of (profile ∷ form ∷ []) =
-    if same_text profile (codes "base") then option_map (λ f. Check (Base f)) (form_word form) else None
-check_of (profile ∷ form ∷ word ∷ words) = None
+check_of (name ∷ []) = if same_text name (codes "adaptive") then Some (Check profile.Adaptive) else None
+check_of (name ∷ form ∷ []) =
+    if same_text name (codes "base") then option_map (λ f. Check (profile.Base f)) (form_word form) else None
+check_of (name ∷ form ∷ word ∷ words) = None
+
+abbrev pub lower_adaptive : List ℕ → Option Caps → Option Command
+lower_adaptive budget None = None
+lower_adaptive budget (Some caps) = option_map (Lower (target.Adaptive caps)) (budget_word budget)
 
 abbrev pub lower_of : List (List ℕ) → Option Command
-lower_of (profile ∷ budget ∷ []) =
-    if same_text profile (codes "base") then option_map LowerBase (number_word 1 10000 budget) else None
-lower_of words = None
+lower_of [] = None
+lower_of (name ∷ []) = None
+lower_of (name ∷ budget ∷ []) = if same_text name (codes "base") then option_map (Lower target.Base) (budget_word budget) else None
+lower_of (name ∷ budget ∷ caps ∷ []) = if same_text name (codes "adaptive") then lower_adaptive budget (caps_of caps) else None
+lower_of (name ∷ budget ∷ caps ∷ word ∷ words) = None
 
 -- the command that words are, compared exactly
 abbrev pub command_of : List (List ℕ) → Option Command
@@ -52,3 +68,9 @@ command_of (name ∷ words) =
     if same_text name (codes "print") then print_of words
     else (if same_text name (codes "check") then check_of words
     else (if same_text name (codes "lower") then lower_of words else None))
+
+-- the budget of a command is within its limit, as that of words is
+abbrev pub IsLimited : Command → Type 0
+IsLimited Print = ⊤
+IsLimited (Check profile) = ⊤
+IsLimited (Lower target budget) = budget ≤ greatest_budget

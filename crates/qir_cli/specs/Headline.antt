@@ -1,17 +1,39 @@
--- What a lowered module keeps of its source.
-use Rattle.std.specs.Prelude.{ℕ}
-use Rattle.backend_api.specs.Naming.{Naming}
+-- The headline: what `lower` writes keeps what its source does.
+use Rattle.std.specs.Prelude.{◌≡◌, ℕ, ⊤, List, Option, Some, IfSome}
 use Rattle.ir_module.specs.declared.tree.Module.{Module}
-use Rattle.qir_meaning.specs.Runs.{AlwaysRuns}
-use Rattle.qir_meaning.specs.Apart.{KeepsApart}
-use Rattle.qir_meaning.specs.Same.{SameBehaviour}
+use Rattle.ir_printer.specs.Canonical.{canonical}
+use Rattle.ir_reader.specs.Spelling.{Spells}
+use Rattle.kept_items.specs.declared.target.Target.{Target}
+use Rattle.qir_ports.specs.Known.{Takes}
+use Rattle.sound_lowering.specs.Programs.{IsLowered}
+use Rattle.sound_lowering.specs.Sound.{IsSound}
+use Rattle.qir_cli.specs.Commands.{command_of}
+use Rattle.qir_cli.specs.declared.command.Command.{Command}
+use Rattle.qir_cli.specs.declared.command.Command.TheVariants.{Print, Check, Lower}
 
--- l is the module m, lowered within a budget, under this naming of its qubits and results
-pub record Lowered (m : Module) (budget : ℕ) (l : Module) (naming : Naming) : Type 0 where
-  -- it does what m does, whatever the machine answers
-  pub same : SameBehaviour m l naming budget
-  -- no two of the qubits, and no two of the results, that runs of m name get one name
-  pub apart : KeepsApart naming m
-  -- both have a run for every list of answers and every bound of steps
-  pub source_runs : AlwaysRuns m
-  pub lowered_runs : AlwaysRuns l
+-- The bytes spell a source, and the text, which is canonical, its lowered module: made of all configurations that constant evaluation
+-- reaches within the budget, it passes the profile and does what the source does.
+pub record KeepsSource (t : Target) (budget : ℕ) (bytes text : List ℕ) : Type 0 where
+  pub source : Module
+  pub lowered : Module
+  pub read : Spells source bytes
+  pub spells : Spells lowered text
+  pub is_canonical : text ≡ canonical lowered
+  pub made : IsLowered source t budget lowered
+  pub sound : IsSound source t budget made.nodes lowered
+
+-- what is kept by the text that a command replies with to these bytes
+abbrev pub KeepsBy : Command → List ℕ → List ℕ → Type 0
+KeepsBy Print bytes text = ⊤
+KeepsBy (Check profile) bytes text = ⊤
+KeepsBy (Lower t budget) bytes text = KeepsSource t budget bytes text
+
+-- The words are a command; of all the bytes that the source had left, where it tells them, the text that was written keeps this.
+pub record WritesKept (words : List (List ℕ)) (left taken taken' : Option (List ℕ)) : Type 0 where
+  pub command : Command
+  pub is_command : command_of words ≡ Some command
+  pub bytes : List ℕ
+  pub input : IfSome left (λ all. all ≡ bytes)
+  pub text : List ℕ
+  pub written : Takes taken text taken'
+  pub keeps : KeepsBy command bytes text

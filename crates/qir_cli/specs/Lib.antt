@@ -1,12 +1,9 @@
 pub mod Admission
-pub mod BaseGates
-pub mod BaseText
-pub mod BaseTree
 pub mod Checking
 pub mod Commands
 pub mod Headline
 pub mod Laws
-pub mod OneBlock
+pub mod Lowering
 pub mod Outcomes
 pub mod Reading
 pub mod Refusals

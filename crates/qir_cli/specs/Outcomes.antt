@@ -1,7 +1,7 @@
 -- What a call of the program read and wrote.
 use Rattle.std.specs.Prelude.{◌≡◌, ℕ, ◌<◌, List, length, take, Option, None, Some, IfSome, ⊤}
 use Rattle.qir_cli.specs.declared.command.Command.{Command}
-use Rattle.qir_cli.specs.declared.command.Command.TheVariants.{Print, Check, LowerBase}
+use Rattle.qir_cli.specs.declared.command.Command.TheVariants.{Print, Check, Lower}
 use Rattle.qir_cli.specs.declared.reply.Reply.{Reply}
 use Rattle.qir_cli.specs.declared.status.Status.{Status}
 use Rattle.qir_cli.specs.declared.status.Status.TheVariants.{Done, Refused, BadWords, Stopped, ReadFault, WriteFault, Memory}
@@ -24,7 +24,7 @@ abbrev pub WritesAtOnce : Option Command → Type 0
 WritesAtOnce None = ⊤
 WritesAtOnce (Some Print) = ⊤
 WritesAtOnce (Some (Check profile)) = ⊤
-WritesAtOnce (Some (LowerBase budget)) = ⊤
+WritesAtOnce (Some (Lower target budget)) = ⊤
 
 -- the statuses with which these words write nothing
 abbrev pub IsUnwritten : List (List ℕ) → Status → Type 0

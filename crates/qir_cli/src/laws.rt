@@ -3,6 +3,8 @@ ghost use Rattle.qir_cli.specs.Laws.{RepliesAreOne, RepliesExist};
 
 use check_command::{reports_are_one, reports_exist};
 use ir_reader::one_answer;
+use lowering_verdicts::laws::{lowering_has_an_answer, lowering_has_one_answer};
+use read_modules::read_modules_are_printable;
 use type_check::{modules_are_typed_or_faulty, modules_have_one_first_fault};
 
 /// A command that has one text for an input has at most one reply to it.
@@ -12,13 +14,16 @@ pub fn replies_are_one()
     one_answer();
     modules_have_one_first_fault();
     reports_are_one();
+    lowering_has_one_answer();
 }
 
-/// Every command has a reply to every input.
+/// Every command has a reply to every list of bytes.
 pub fn replies_exist()
     ensures { RepliesExist }
 {
     one_answer();
     modules_are_typed_or_faulty();
     reports_exist();
+    lowering_has_an_answer();
+    read_modules_are_printable();
 }

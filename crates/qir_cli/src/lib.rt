@@ -2,11 +2,9 @@
 #![tactic(auto)]
 
 mod admitted;
-mod base_lowering;
 mod command;
 mod laws;
-mod lower_base;
-mod one_block;
+mod lowering;
 mod program;
 mod refusal;
 mod reply;

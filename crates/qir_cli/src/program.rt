@@ -4,6 +4,7 @@ ghost use Rattle.ir_values.specs.Counts.{Rose};
 ghost use Rattle.qir_ports.specs.Known.{Takes, GivesUpTo};
 ghost use Rattle.qir_cli.specs.Commands.{command_of, texts_of};
 ghost use Rattle.qir_cli.specs.code.Stops.{Sends};
+ghost use Rattle.qir_cli.specs.Headline.{WritesKept};
 ghost use Rattle.qir_cli.specs.Outcomes.{Answered, PartlyAnswered, IsAnswered, IsUnwritten};
 ghost use Rattle.qir_cli.specs.Replies.{limit};
 
@@ -28,6 +29,7 @@ const LIMIT: usize = 4_194_304;
 ///   make their whole text first.
 /// - Every other status comes with the whole of the reply that the command has to all the bytes that
 ///   the source had left, where it tells them.
+/// - With `Done`, `lower` has written a text that keeps what the module of those bytes does.
 pub fn qir<S: Source, K: Sink>(
     alloc: Global,
     words: &Vec<String>,
@@ -44,6 +46,8 @@ pub fn qir<S: Source, K: Sink>(
         (K.taken out.old) (K.taken out.new) result }
     ensures partly_answered { result ≡ Status.WriteFault → PartlyAnswered (texts_of words.now.items)
         (S.left input.old) (K.taken out.old) (K.taken out.new) }
+    ensures kept { result ≡ Status.Done → WritesKept (texts_of words.now.items) (S.left input.old)
+        (K.taken out.old) (K.taken out.new) }
 {
     let Some(command) = command::command_of(words.as_slice()) else {
         return Status::BadWords;

@@ -7,6 +7,8 @@ ghost use Rattle.qir_cli.specs.Refusals as spec;
 use ir_module::Place;
 use ir_reader::{ReadCode, ReadStop};
 use ir_values::{Bytes, Memory, push_decimal};
+use kept_items::Kind;
+use output_lines::cause_name;
 use std::alloc::Global;
 use type_check::TypeCode;
 
@@ -19,17 +21,8 @@ pub(crate) enum Fault {
     Read(ReadCode),
     /// The module breaks a rule of admission.
     Rule(TypeCode),
-    /// The module can't be lowered.
-    Lower(LowerCode),
-}
-
-/// Why a module isn't lowered.
-#[derive(Clone, Copy)]
-pub(crate) enum LowerCode {
-    /// It is no module of one block, and others are not lowered yet.
-    FirstPath,
-    /// It has more instructions than the budget.
-    Budget,
+    /// Constant evaluation doesn't decide an instruction of the module, or the target doesn't permit it.
+    Lower(Kind),
 }
 
 /// A fault and its place in the input.
@@ -109,7 +102,7 @@ impl Fault {
             Fault::TooLong => text.extend_from_slice(b"1"),
             Fault::Read(code) => push_decimal(text, u128::from(code.number())),
             Fault::Rule(code) => push_decimal(text, u128::from(code.number())),
-            Fault::Lower(code) => text.extend_from_slice(code.code()),
+            Fault::Lower(kind) => text.extend_from_slice(kind_code(kind)),
         }
     }
 
@@ -121,28 +114,42 @@ impl Fault {
             Fault::TooLong => b"TooLong",
             Fault::Read(code) => code.name(),
             Fault::Rule(code) => code.name(),
-            Fault::Lower(code) => code.name(),
+            Fault::Lower(kind) => kind_name(kind),
         }
     }
 }
 
-impl LowerCode {
-    fn code(self) -> &'static [u8]
-        ensures { result.now ≡ spec.lower_code self }
-    {
-        match self {
-            LowerCode::FirstPath => b"13",
-            LowerCode::Budget => b"U4",
-        }
+/// The code of a reason against lowering.
+fn kind_code(kind: Kind) -> &'static [u8]
+    ensures { result.now ≡ spec.kind_code kind }
+{
+    match kind {
+        Kind::Handle => b"U1",
+        Kind::Target => b"U2",
+        Kind::Loop => b"U3",
+        Kind::Budget => b"U4",
+        Kind::Token => b"U5",
+        Kind::Forbidden => b"F1",
+        Kind::Phase => b"F2",
+        Kind::Capability => b"F3",
+        Kind::Traps(_) => b"F4",
     }
+}
 
-    fn name(self) -> &'static [u8]
-        ensures { result.now ≡ spec.lower_name self }
-    {
-        match self {
-            LowerCode::FirstPath => b"FirstPath",
-            LowerCode::Budget => b"Budget",
-        }
+/// The name of a reason against lowering.
+fn kind_name(kind: Kind) -> &'static [u8]
+    ensures { result.now ≡ spec.kind_name kind }
+{
+    match kind {
+        Kind::Handle => b"Handle",
+        Kind::Target => b"Target",
+        Kind::Loop => b"Loop",
+        Kind::Budget => b"Budget",
+        Kind::Token => b"Token",
+        Kind::Forbidden => b"Forbidden",
+        Kind::Phase => b"Phase",
+        Kind::Capability => b"Capability",
+        Kind::Traps(cause) => cause_name(cause),
     }
 }
 

@@ -1,16 +1,19 @@
 //! The replies of commands to texts.
-ghost use Rattle.std.specs.Prelude.{◌≡◌, ◌≤◌, length, IfOk, Ok as Gives};
+ghost use Rattle.std.specs.Prelude.{◌≡◌, ◌≤◌, ℕ, List, length, IfOk, Ok as Gives};
 ghost use Rattle.finding_lines.specs.Lines.{ArePlaces};
+ghost use Rattle.ir_module.specs.Printable.{IsPrintable};
+ghost use Rattle.ir_reader.specs.Spelling.{Spells};
 ghost use Rattle.qir_cli.specs.Checking.{Checks, reported};
 ghost use Rattle.qir_cli.specs.code.AdmittedCode.{parsed_of};
-ghost use Rattle.qir_cli.specs.code.Placed.{Placed};
-ghost use Rattle.qir_cli.specs.code.Stops.{Meets};
+ghost use Rattle.qir_cli.specs.code.Stops.{KeepsWell, Meets};
+ghost use Rattle.qir_cli.specs.Commands.{IsLimited};
+ghost use Rattle.qir_cli.specs.Headline.{KeepsBy};
 ghost use Rattle.qir_cli.specs.Replies as spec;
 ghost use Rattle.qir_cli.specs.Stages.{Is};
 
 use crate::admitted::{Admitted, admit_module};
 use crate::command::Command;
-use crate::lower_base::lower_base;
+use crate::lowering::lower_module;
 use crate::refusal::{Fault, Refusal, Stop};
 use crate::status::Status;
 use check_command::{Profile, check};
@@ -54,8 +57,10 @@ impl Reply {
 
 /// The reply of a command to a text of at most 4,194,304 bytes.
 pub(crate) fn reply_to(alloc: Global, command: Command, text: &[u8]) -> Result<Reply, Memory>
-    requires { length text.now ≤ spec.limit }
-    ensures { IfOk result (λ reply. spec.Replies command text.now reply) }
+    requires short { length text.now ≤ spec.limit }
+    requires limited { IsLimited command }
+    ensures replies { IfOk result (λ reply. spec.Replies command text.now reply) }
+    ensures kept { IfOk result (KeepsWell command text.now) }
 {
     match run(alloc, command, text) {
         Ok(reply) => Ok(reply),
@@ -66,8 +71,10 @@ pub(crate) fn reply_to(alloc: Global, command: Command, text: &[u8]) -> Result<R
 
 /// What the command comes to.
 fn run(alloc: Global, command: Command, text: &[u8]) -> Result<Reply, Stop>
-    requires { length text.now ≤ spec.limit }
-    ensures { Meets (spec.ComesTo command text.now) result }
+    requires short { length text.now ≤ spec.limit }
+    requires limited { IsLimited command }
+    ensures meets { Meets (spec.ComesTo command text.now) result }
+    ensures kept { IfOk result (λ reply. KeepsBy command text.now reply.text) }
 {
     let parsed = ir_reader::read(alloc, text)?;
     let admitted = admit_module(alloc, parsed)?;
@@ -76,15 +83,16 @@ fn run(alloc: Global, command: Command, text: &[u8]) -> Result<Reply, Stop>
 
 /// What the command does with a module that was admitted.
 fn does(alloc: Global, command: Command, a: &Admitted) -> Result<Reply, Stop>
-    requires instructions { Placed (parsed_of a.now) }
+    requires limited { IsLimited command }
     requires parts { ArePlaces a.now.checked.tree a.now.places }
-    ensures { Meets (spec.DoesAdmitted command (parsed_of a.now)) result }
+    requires printable { IsPrintable a.now.checked.tree }
+    ensures meets { Meets (spec.DoesAdmitted command (parsed_of a.now)) result }
+    ensures kept { IfOk result (λ reply. (bytes : List ℕ) → Spells a.now.checked.tree bytes → KeepsBy command bytes reply.text) }
 {
-    let m = a.checked.module();
     match command {
-        Command::Print => print_module(alloc, m),
+        Command::Print => print_module(alloc, a.checked.module()),
         Command::Check { profile } => check_module(alloc, a, profile),
-        Command::LowerBase { budget } => lower_base(alloc, budget, m, &a.places),
+        Command::Lower { target, budget } => lower_module(alloc, a, target, budget),
     }
 }
 

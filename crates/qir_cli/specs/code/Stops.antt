@@ -4,13 +4,15 @@ use Rattle.ir_reader.specs.declared.parsed.ReadStop.{ReadStop}
 use Rattle.ir_reader.specs.declared.parsed.ReadStop.TheVariants as read
 use Rattle.ir_values.specs.Counts.{Rose}
 use Rattle.ir_values.specs.declared.memory.Memory.{Memory as NoMemory}
+use Rattle.qir_cli.specs.declared.command.Command.{Command}
 use Rattle.qir_cli.specs.declared.refusal.Fault.TheVariants.{Read}
 use Rattle.qir_cli.specs.declared.refusal.Refusal.{Refusal}
 use Rattle.qir_cli.specs.declared.refusal.Stop.{Stop}
 use Rattle.qir_cli.specs.declared.refusal.Stop.TheVariants as stop
 use Rattle.qir_cli.specs.declared.reply.Reply.{Reply}
 use Rattle.qir_cli.specs.declared.status.Status.{Status}
-use Rattle.qir_cli.specs.declared.status.Status.TheVariants.{WriteFault, Memory}
+use Rattle.qir_cli.specs.declared.status.Status.TheVariants.{Done, WriteFault, Memory}
+use Rattle.qir_cli.specs.Headline.{KeepsBy}
 use Rattle.qir_ports.specs.Known.{Takes}
 
 abbrev pub stop_of : ReadStop → Stop
@@ -22,6 +24,10 @@ abbrev pub Meets : {A : Type 0} → (Result A Refusal → Type 0) → Result A S
 Meets ComesTo (Ok x) = ComesTo (Ok x)
 Meets ComesTo (Err (stop.Refused why)) = ComesTo (Err why)
 Meets ComesTo (Err stop.Memory) = ⊤
+
+-- what is said of a reply that ends well
+abbrev pub KeepsWell : Command → List ℕ → Reply → Type 0
+KeepsWell command bytes reply = reply.status ≡ Done → KeepsBy command bytes reply.text
 
 -- What becomes of a reply: it is written whole, or its beginning is, where a write failed. Without a reply nothing is written.
 pub data Writes (reply : Reply) (taken taken' : Option (List ℕ)) (faults faults' : ℕ) : Status → Type 0 where

@@ -3,23 +3,26 @@ use Rattle.std.proofs.Common.{◌≡◌, ◌∙◌, ℕ, ◌+◌, ◌<◌, List,
 use Rattle.std.specs.Prelude.{Option, None, Some, Result, Ok, Err, IfOk, IfSome}
 use Rattle.std.specs.Option.{option_map}
 use Rattle.std.proofs.lemmas.List.{take-append-drop, length-replicate, length-take}
+use Rattle.ir_module.specs.declared.tree.Module.{Module}
 use Rattle.ir_reader.specs.declared.parsed.Parsed.{Parsed}
+use Rattle.ir_reader.specs.Spelling.{Spells}
 use Rattle.ir_values.specs.Counts.{Rose}
 use Rattle.ir_values.specs.declared.memory.Memory.{Memory as NoMemory}
 use Rattle.qir_ports.specs.Known.{GivesTooMany, GivesUpTo}
 use Rattle.qir_cli.specs.code.Stops.{KeepsWell, Writes, whole, in_part, Sends}
-use Rattle.qir_cli.specs.Headline.{WritesKept}
+use Rattle.qir_cli.specs.Headline.{KeepsBy, WritesKept}
 use Rattle.qir_cli.specs.Commands.{command_of}
 use Rattle.qir_cli.specs.declared.command.Command.{Command}
 use Rattle.qir_cli.specs.declared.command.Command.TheVariants.{Print, Check, Lower}
 use Rattle.qir_cli.specs.declared.refusal.Fault.TheVariants.{TooLong}
 use Rattle.qir_cli.specs.declared.refusal.Refusal.{Refusal}
+use Rattle.qir_cli.specs.declared.refusal.Stop.{Stop}
 use Rattle.qir_cli.specs.declared.reply.Reply.{Reply}
 use Rattle.qir_cli.specs.declared.status.Status.{Status}
 use Rattle.qir_cli.specs.declared.status.Status.TheVariants.{Done, Refused, BadWords, Stopped, ReadFault, WriteFault, Memory}
 use Rattle.qir_cli.specs.Outcomes.{Answered, HasReply, IsAnswered, IsUnwritten, PartlyAnswered}
 use Rattle.qir_cli.specs.Refusals.{at_start}
-use Rattle.qir_cli.specs.Replies.{ComesTo, DoesAdmitted, limit, Replies, reply_of, too_long}
+use Rattle.qir_cli.specs.Replies.{ComesTo, DoesAdmitted, limit, refused, Replies, reply_of, too_long}
 use Rattle.qir_cli.specs.Stages.{refuses, leads_on}
 use Rattle.qir_cli.proofs.Checked.{checks-answered}
 use Rattle.qir_cli.proofs.Lowers.{lowers-answered}
@@ -146,6 +149,17 @@ sent-kept words command is left bytes input taken taken' faults faults' unchange
 sent-kept words command is left bytes input taken taken' faults faults' unchanged (Ok r) s keeps (in_part few takes rose) e = cc
 sent-kept words command is left bytes input taken taken' faults faults' unchanged (Err x) s keeps sends e = cc sends.1
 
-pub too-long-kept : (command : Command) (bytes : List ℕ) (r : Result Reply NoMemory) → IfOk r (λ r. r ≡ too_long) → IfOk r (KeepsWell command bytes)
-too-long-kept command bytes (Ok r) is = λ e. let f : Refused ≡ Done = sym (ap (λ (r : Reply). r.status) is) ∙ e in cc
-too-long-kept command bytes (Err e) is = is
+-- a refusal doesn't end so
+pub refused-kept : (command : Command) (bytes : List ℕ) (why : Refusal) (r : Result Reply NoMemory) → IfOk r (λ reply. reply ≡ refused why)
+    → IfOk r (KeepsWell command bytes)
+refused-kept command bytes why (Ok r) is = λ e. let f : Refused ≡ Done = sym (ap (λ (r : Reply). r.status) is) ∙ e in cc
+refused-kept command bytes why (Err e) is = is
+
+-- what holds of every text of a module holds of the one that was read
+pub kept-by : (command : Command) (m : Module) (text : List ℕ) (r : Result Reply Stop) → Spells m text
+    → IfOk r (λ reply. (bytes : List ℕ) → Spells m bytes → KeepsBy command bytes reply.text) → IfOk r (λ reply. KeepsBy command text reply.text)
+kept-by command m text (Ok reply) spells keeps = keeps text spells
+kept-by command m text (Err e) spells keeps = keeps
+
+pub reply-kept : (command : Command) (bytes : List ℕ) (reply : Reply) → KeepsBy command bytes reply.text → KeepsWell command bytes reply
+reply-kept command bytes reply keeps e = keeps

@@ -1,7 +1,7 @@
 -- The reply of `lower`: there is one, just one, it has a status of replies, and what is written keeps what the source does.
-use Rattle.std.proofs.Common.{◌≡◌, ◌∙◌, ℕ, ◌<◌, ◌≤◌, List, length, refl, ap, sym, subst}
+use Rattle.std.proofs.Common.{◌≡◌, ◌∙◌, ℕ, List, refl, ap, sym, subst}
 use Rattle.std.specs.Prelude.{Result, Ok, Err}
-use mathlib.Core.Logic.{◌⊎◌, inl, inr}
+use mathlib.Core.Logic.{inl, inr}
 use Rattle.ir_module.specs.declared.places.Point.{Point}
 use Rattle.ir_module.specs.declared.places.Spot.TheVariants.{At}
 use Rattle.ir_module.specs.declared.tree.Module.{Module}
@@ -12,17 +12,17 @@ use Rattle.ir_reader.specs.declared.parsed.Parsed.{Parsed}
 use Rattle.ir_reader.specs.Spelling.{Spells}
 use Rattle.kept_items.specs.declared.target.Kind.{Kind}
 use Rattle.kept_items.specs.declared.target.Target.{Target}
-use Rattle.lowering_verdicts.specs.Laws.{HasAnswer, LoweringHasAnAnswer, LoweringHasOneAnswer}
+use Rattle.lowering_verdicts.specs.Laws.{LoweringHasAnAnswer, LoweringHasOneAnswer}
 use Rattle.qubit_lowering.specs.Kept.{IsKept}
-use Rattle.sound_lowering.specs.Programs.{IsLowered, IsNotLowered, source_limit}
+use Rattle.sound_lowering.specs.Programs.{source_limit}
 use Rattle.type_check.specs.Faults.{Typed}
 use Rattle.qir_cli.specs.Admission.{place_at}
 use Rattle.qir_cli.specs.declared.refusal.Fault.TheVariants.{Lower}
 use Rattle.qir_cli.specs.declared.refusal.Refusal.{Refusal}
 use Rattle.qir_cli.specs.declared.reply.Reply.{Reply}
-use Rattle.qir_cli.specs.declared.status.Status.TheVariants.{Done, Refused}
+use Rattle.qir_cli.specs.declared.status.Status.TheVariants.{Done}
 use Rattle.qir_cli.specs.Headline.{KeepsSource}
-use Rattle.qir_cli.specs.Lowering.{Lowers, RepliesLowered, TellsInstruction}
+use Rattle.qir_cli.specs.Lowering.{Lowers, RepliesLowered}
 use Rattle.qir_cli.specs.Outcomes.{IsAnswered}
 use Rattle.qir_cli.specs.Replies.{reply_of}
 use Rattle.qir_cli.specs.Stages.{AtMostOne, AtLeastOne}

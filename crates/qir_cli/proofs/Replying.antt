@@ -2,7 +2,6 @@
 use Rattle.std.proofs.Common.{◌≡◌, ◌∙◌, ℕ, ◌<◌, ◌≤◌, Bool, true, false, List, length, refl, ap, sym, subst, arith, if◌then◌else◌}
 use Rattle.std.specs.Prelude.{nat_le, IfOk, Result, Ok, Err}
 use Rattle.ir_grammar.specs.declared.tree.ItemSyntax.{ItemSyntax}
-use Rattle.ir_module.specs.declared.tree.Module.{Module}
 use Rattle.ir_module.specs.Numbered.{Numbered}
 use Rattle.ir_module.specs.Printable.{are_bytes, IsPrintable}
 use Rattle.ir_names.specs.Module.{module_of}

@@ -33,3 +33,43 @@ each_is_enough = record { start = refl; jumps = refl; cases = refl; scopes = ref
 
 pub each-valid : (r : Residue) → r ≡ spec.adaptive → Valid r (target.Adaptive each)
 each-valid r e = subst (λ r. Valid r (target.Adaptive each)) (sym e) each_is_enough
+
+abbrev pub none : Caps
+none = record { ints = false; switch = false; returns = false; loops = false }
+
+plain_is_valid : Valid spec.plain (target.Adaptive none)
+unfolding class_of
+plain_is_valid = record { start = refl; jumps = refl; cases = refl; scopes = refl; allowed = refl; types = refl; operations = refl; outputs = refl; constants = refl; names = refl; calls = refl; labels = refl; numbers = refl; permits = refl; phases = refl }
+
+pub plain-valid : (r : Residue) → r ≡ spec.plain → Valid r (target.Adaptive none)
+plain-valid r e = subst (λ r. Valid r (target.Adaptive none)) (sym e) plain_is_valid
+
+abbrev pub switched : Caps
+switched = record none { switch = true }
+
+switching_is_valid : Valid spec.switching (target.Adaptive switched)
+unfolding class_of
+switching_is_valid = record { start = refl; jumps = refl; cases = refl; scopes = refl; allowed = refl; types = refl; operations = refl; outputs = refl; constants = refl; names = refl; calls = refl; labels = refl; numbers = refl; permits = refl; phases = refl }
+
+pub switching-valid : (r : Residue) → r ≡ spec.switching → Valid r (target.Adaptive switched)
+switching-valid r e = subst (λ r. Valid r (target.Adaptive switched)) (sym e) switching_is_valid
+
+abbrev pub returned : Caps
+returned = record none { returns = true }
+
+returning_is_valid : Valid spec.returning (target.Adaptive returned)
+unfolding class_of
+returning_is_valid = record { start = refl; jumps = refl; cases = refl; scopes = refl; allowed = refl; types = refl; operations = refl; outputs = refl; constants = refl; names = refl; calls = refl; labels = refl; numbers = refl; permits = refl; phases = refl }
+
+pub returning-valid : (r : Residue) → r ≡ spec.returning → Valid r (target.Adaptive returned)
+returning-valid r e = subst (λ r. Valid r (target.Adaptive returned)) (sym e) returning_is_valid
+
+abbrev pub looped : Caps
+looped = record none { loops = true }
+
+looping_is_valid : Valid spec.looping (target.Adaptive looped)
+unfolding class_of
+looping_is_valid = record { start = refl; jumps = refl; cases = refl; scopes = refl; allowed = refl; types = refl; operations = refl; outputs = refl; constants = refl; names = refl; calls = refl; labels = refl; numbers = refl; permits = refl; phases = refl }
+
+pub looping-valid : (r : Residue) → r ≡ spec.looping → Valid r (target.Adaptive looped)
+looping-valid r e = subst (λ r. Valid r (target.Adaptive looped)) (sym e) looping_is_valid

@@ -1,4 +1,5 @@
-//! Two residues, one for Base and one for the Adaptive Profile.
+//! Worked residues: one for Base, one for the Adaptive Profile with integers, and one without capabilities and
+//! for each other one.
 ghost use Rattle.std.specs.Prelude.{◌≡◌, ◌∷◌, [], IfOk};
 ghost use Rattle.residue.specs.declared.parts.Tail.TheVariants as tail;
 ghost use Rattle.residue.specs.Functions.{attr};
@@ -6,9 +7,9 @@ ghost use Rattle.residue_tests.specs.Worked as spec;
 
 use called_functions::text;
 use ir_module::{Attr, Attrs, Constant};
-use ir_values::{Bytes, Class, Conv, GlobalId, Int, Memory, Name, Seq, Ty, Value, Width};
+use ir_values::{Bytes, Class, Conv, GlobalId, Int, Memory, Name, Pred, Seq, Ty, Value, Width};
 use kept_items::{Dyn, Item, TypedVals, Val};
-use residue::{Jump, Line, Lines, Names, Part, Residue, Tail};
+use residue::{Jump, Line, Lines, Names, Part, Parts, Residue, Tail, Vals};
 use std::alloc::Global;
 
 /// The list of these items.
@@ -25,6 +26,27 @@ fn int(bits: u64) -> Val
         Some(int) => Val::Known(Value::Int(int)),
         None => unreachable!(),
     }
+}
+
+fn bit() -> Int
+    ensures { result ≡ spec.bit }
+{
+    match Int::new(Width::W1, 1) {
+        Some(int) => int,
+        None => unreachable!(),
+    }
+}
+
+fn one() -> Val
+    ensures { result ≡ spec.one }
+{
+    Val::Known(Value::Int(bit()))
+}
+
+fn jump(to: u32, args: Vals) -> Jump
+    ensures { result ≡ spec.jump to args }
+{
+    Jump { to, args }
 }
 
 fn qubit(number: u64) -> (Ty, Val)
@@ -133,14 +155,8 @@ fn first(alloc: Global) -> Result<Part, Memory>
     ensures { IfOk result (λ p. p ≡ spec.first) }
 {
     let equal = Line::Item(Item::Equal(Dyn(7), Value::Measured(0), Value::One));
-    let around = Jump {
-        to: 1,
-        args: Seq::new(alloc),
-    };
-    let across = Jump {
-        to: 2,
-        args: list(alloc, [int(5)])?,
-    };
+    let around = jump(1, Seq::new(alloc));
+    let across = jump(2, list(alloc, [int(5)])?);
     Ok(Part {
         params: Seq::new(alloc),
         lines: list(alloc, [measurement(alloc)?, equal, Line::Freed(0)])?,
@@ -154,10 +170,7 @@ fn second(alloc: Global) -> Result<Part, Memory>
     let read = Line::Item(Item::Read(Dyn(4), Value::Id(0)));
     let bit = Val::Dynamic(Dyn(4));
     let wide = Line::Item(Item::Convert(Dyn(3), Conv::ZExt, Width::W1, bit, Width::W64));
-    let onward = Jump {
-        to: 2,
-        args: list(alloc, [Val::Dynamic(Dyn(3))])?,
-    };
+    let onward = jump(2, list(alloc, [Val::Dynamic(Dyn(3))])?);
     Ok(Part {
         params: Seq::new(alloc),
         lines: list(alloc, [read, wide])?,
@@ -195,4 +208,135 @@ pub fn adaptive(alloc: Global) -> Result<Residue, Memory>
         all_results: 2,
         parts,
     })
+}
+
+/// A part that reads a result, with other lines behind it.
+fn reading(alloc: Global, behind: Option<Line>, tail: Tail) -> Result<Part, Memory>
+    ensures { IfOk result (λ p. p ≡ spec.reading (spec.in_list behind) tail) }
+{
+    let mut lines = list(alloc, [Line::Item(Item::Read(Dyn(0), Value::Id(0)))])?;
+    if let Some(line) = behind {
+        lines.push(line)?;
+    }
+    Ok(Part {
+        params: Seq::new(alloc),
+        lines,
+        tail,
+    })
+}
+
+/// A part that returns a code.
+fn ending(alloc: Global, code: u64) -> Part
+    ensures { result ≡ spec.ending code }
+{
+    Part {
+        params: Seq::new(alloc),
+        lines: Seq::new(alloc),
+        tail: Tail::Return(int(code)),
+    }
+}
+
+/// A part that flips the qubit and goes on in part 2.
+fn flipping(alloc: Global, args: Vals) -> Result<Part, Memory>
+    ensures { IfOk result (λ p. p ≡ spec.flipping args) }
+{
+    let flipped = list(alloc, [(Ty::Qubit, Val::Known(Value::Id(0)))])?;
+    let gate = operation(alloc, b"__quantum__qis__x__body", flipped)?;
+    Ok(Part {
+        params: Seq::new(alloc),
+        lines: list(alloc, [gate])?,
+        tail: Tail::Jump(jump(2, args)),
+    })
+}
+
+fn made_of(alloc: Global, parts: Parts) -> Result<Residue, Memory>
+    ensures { IfOk result (λ r. r ≡ spec.made_of parts) }
+{
+    Ok(Residue {
+        globals: Seq::new(alloc),
+        entry: Name::Text(text(alloc, b"main")?),
+        attrs: Seq::new(alloc),
+        irreversible: Seq::new(alloc),
+        own_qubits: 1,
+        own_results: 1,
+        all_qubits: 1,
+        all_results: 1,
+        parts,
+    })
+}
+
+fn recording(alloc: Global) -> Result<Part, Memory>
+    ensures { IfOk result (λ p. p ≡ spec.recording) }
+{
+    let read = (Ty::Int(Width::W1), Val::Dynamic(Dyn(2)));
+    let args = list(alloc, [read, (Ty::Text, Val::Known(Value::NoLabel))])?;
+    Ok(Part {
+        params: list(alloc, [(Dyn(2), Width::W1)])?,
+        lines: list(alloc, [Line::Item(Item::Output(Class::BoolRecord, args))])?,
+        tail: Tail::Return(int(0)),
+    })
+}
+
+/// A computation on bits, a branch, and a phi of a bit where the two ways meet.
+pub fn plain(alloc: Global) -> Result<Residue, Memory>
+    ensures { IfOk result (λ r. r ≡ spec.plain) }
+{
+    let unset = Item::Icmp(Dyn(1), Pred::Ne, Width::W1, Val::Dynamic(Dyn(0)), one());
+    let across = jump(2, list(alloc, [Val::Dynamic(Dyn(0))])?);
+    let tail = Tail::Branch(Val::Dynamic(Dyn(1)), jump(1, Seq::new(alloc)), across);
+    let first = reading(alloc, Some(Line::Item(unset)), tail)?;
+    let second = flipping(alloc, list(alloc, [one()])?)?;
+    let parts = list(alloc, [first, second, recording(alloc)?])?;
+    made_of(alloc, parts)
+}
+
+/// A switch by a bit.
+pub fn switching(alloc: Global) -> Result<Residue, Memory>
+    ensures { IfOk result (λ r. r ≡ spec.switching) }
+{
+    let cases = list(alloc, [(bit(), jump(1, Seq::new(alloc)))])?;
+    let tail = Tail::Switch(
+        Width::W1,
+        Val::Dynamic(Dyn(0)),
+        jump(2, Seq::new(alloc)),
+        cases,
+    );
+    let first = reading(alloc, None, tail)?;
+    let parts = list(
+        alloc,
+        [first, flipping(alloc, Seq::new(alloc))?, ending(alloc, 0)],
+    )?;
+    made_of(alloc, parts)
+}
+
+fn branching(alloc: Global) -> Result<Part, Memory>
+    ensures { IfOk result (λ p. p ≡ spec.branching) }
+{
+    let there = jump(1, Seq::new(alloc));
+    let tail = Tail::Branch(Val::Dynamic(Dyn(0)), there, jump(2, Seq::new(alloc)));
+    reading(alloc, None, tail)
+}
+
+/// Two codes.
+pub fn returning(alloc: Global) -> Result<Residue, Memory>
+    ensures { IfOk result (λ r. r ≡ spec.returning) }
+{
+    let parts = list(
+        alloc,
+        [branching(alloc)?, ending(alloc, 3), ending(alloc, 0)],
+    )?;
+    made_of(alloc, parts)
+}
+
+/// A part that leads back to itself.
+pub fn looping(alloc: Global) -> Result<Residue, Memory>
+    ensures { IfOk result (λ r. r ≡ spec.looping) }
+{
+    let first = Part {
+        params: Seq::new(alloc),
+        lines: Seq::new(alloc),
+        tail: Tail::Jump(jump(1, Seq::new(alloc))),
+    };
+    let parts = list(alloc, [first, branching(alloc)?, ending(alloc, 0)])?;
+    made_of(alloc, parts)
 }

@@ -1,7 +1,7 @@
 //! The texts of modules.
 ghost use Rattle.residue.specs.Valid.{Valid};
 
-use crate::residues::{adaptive, base};
+use crate::residues::{adaptive, base, looping, plain, returning, switching};
 use ir_printer::print;
 use ir_values::{Bytes, Memory};
 use kept_items::{Caps, Target};
@@ -89,28 +89,119 @@ attributes #1 = { \"irreversible\" }
 
 ";
 
-const INTS: &str = "\
-!llvm.module.flags = !{!0, !1, !2, !3, !4}
+const FLAGS: &str = "\
+!llvm.module.flags = !{!0, !1, !2, !3";
+
+const NODES: &str = "}
 
 !0 = !{i32 1, !\"qir_major_version\", i32 1}
 !1 = !{i32 7, !\"qir_minor_version\", i32 0}
 !2 = !{i32 1, !\"dynamic_qubit_management\", i1 false}
 !3 = !{i32 1, !\"dynamic_result_management\", i1 false}
-!4 = !{i32 1, !\"int_computations\", i1 true}
+";
+
+const INTS: &str = "!4 = !{i32 1, !\"int_computations\", i1 true}
 ";
 
 const EACH: &str = "\
-!llvm.module.flags = !{!0, !1, !2, !3, !4, !5, !6, !7}
-
-!0 = !{i32 1, !\"qir_major_version\", i32 1}
-!1 = !{i32 7, !\"qir_minor_version\", i32 0}
-!2 = !{i32 1, !\"dynamic_qubit_management\", i1 false}
-!3 = !{i32 1, !\"dynamic_result_management\", i1 false}
 !4 = !{i32 1, !\"int_computations\", i1 true}
 !5 = !{i32 1, !\"multiple_target_branching\", i1 true}
 !6 = !{i32 1, !\"multiple_return_points\", i1 true}
 !7 = !{i32 1, !\"backwards_branching\", i1 true}
 ";
+
+const START: &str = "\
+%Qubit = type opaque
+%Result = type opaque
+
+define i64 @main() #0 {
+entry:
+  call void @__quantum__rt__initialize(i8* null)
+";
+
+const DECLARED: &str = "}
+
+declare void @__quantum__rt__initialize(i8*)
+
+declare i1 @__quantum__rt__read_result(%Result*)
+
+";
+
+const FLIPPED: &str = "\
+declare void @__quantum__qis__x__body(%Qubit*)
+
+";
+
+const ATTRIBUTES: &str = "\
+attributes #0 = { \"entry_point\" \"qir_profiles\"=\"adaptive_profile\" \"output_labeling_schema\" \"required_num_qubits\"=\"1\" \"required_num_results\"=\"1\" }
+
+";
+
+const PLAIN: &str = "  %v0 = call i1 @__quantum__rt__read_result(%Result* null)
+  %v1 = icmp ne i1 %v0, true
+  br i1 %v1, label %b1, label %b2
+
+b1:
+  call void @__quantum__qis__x__body(%Qubit* null)
+  br label %b2
+
+b2:
+  %v2 = phi i1 [ %v0, %entry ], [ true, %b1 ]
+  call void @__quantum__rt__bool_record_output(i1 %v2, i8* null)
+  ret i64 0
+";
+
+const RECORDED: &str = "\
+declare void @__quantum__rt__bool_record_output(i1, i8*)
+
+";
+
+const SWITCHING: &str = "  %v0 = call i1 @__quantum__rt__read_result(%Result* null)
+  switch i1 %v0, label %b2 [ i1 true, label %b1 ]
+
+b1:
+  call void @__quantum__qis__x__body(%Qubit* null)
+  br label %b2
+
+b2:
+  ret i64 0
+";
+
+const SWITCHES: &str = "!4 = !{i32 1, !\"multiple_target_branching\", i1 true}
+";
+
+const RETURNING: &str = "  %v0 = call i1 @__quantum__rt__read_result(%Result* null)
+  br i1 %v0, label %b1, label %b2
+
+b1:
+  ret i64 3
+
+b2:
+  ret i64 0
+";
+
+const RETURNS: &str = "!4 = !{i32 1, !\"multiple_return_points\", i1 true}
+";
+
+const LOOPING: &str = "  br label %b1
+
+b1:
+  %v0 = call i1 @__quantum__rt__read_result(%Result* null)
+  br i1 %v0, label %b1, label %b2
+
+b2:
+  ret i64 0
+";
+
+const LOOPS: &str = "!4 = !{i32 1, !\"backwards_branching\", i1 true}
+";
+
+const NONE: Caps = Caps {
+    ints: false,
+    switch: false,
+    returns: false,
+    loops: false,
+};
 
 /// The text of a residue's module.
 fn text_of(alloc: Global, residue: &Residue, target: Target) -> Result<Bytes, Memory>
@@ -120,10 +211,12 @@ fn text_of(alloc: Global, residue: &Residue, target: Target) -> Result<Bytes, Me
     print(alloc, &module)
 }
 
-fn joined(alloc: Global, head: &str, tail: &str) -> Result<Bytes, Memory> {
+/// These texts in a row.
+fn joined(alloc: Global, pieces: &[&str]) -> Result<Bytes, Memory> {
     let mut text = Bytes::new(alloc);
-    text.extend_from_slice(head.as_bytes())?;
-    text.extend_from_slice(tail.as_bytes())?;
+    for piece in pieces {
+        text.extend_from_slice(piece.as_bytes())?;
+    }
     Ok(text)
 }
 
@@ -153,8 +246,82 @@ fn a_block_for_each_part_and_a_flag_for_each_capability(rt: HostRuntime) -> Resu
         loops: true,
     };
     let text = text_of(alloc, &residue, Target::Adaptive(ints))?;
-    assert_eq!(rt; text, joined(alloc, ADAPTIVE, INTS)?);
+    assert_eq!(rt;
+        text,
+        joined(alloc, &[ADAPTIVE, FLAGS, ", !4", NODES, INTS])?
+    );
     let text = text_of(alloc, &residue, Target::Adaptive(each))?;
-    assert_eq!(rt; text, joined(alloc, ADAPTIVE, EACH)?);
+    assert_eq!(rt;
+        text,
+        joined(alloc, &[ADAPTIVE, FLAGS, ", !4, !5, !6, !7", NODES, EACH])?
+    );
+    Ok(())
+}
+
+#[test]
+fn a_target_without_capabilities_computes_on_bits(rt: HostRuntime) -> Result<(), Fail> {
+    let alloc = rt.alloc();
+    let residue = plain(alloc)?;
+    let text = text_of(alloc, &residue, Target::Adaptive(NONE))?;
+    assert_eq!(rt;
+        text,
+        joined(
+            alloc,
+            &[
+                START, PLAIN, DECLARED, FLIPPED, RECORDED, ATTRIBUTES, FLAGS, NODES
+            ]
+        )?
+    );
+    Ok(())
+}
+
+#[test]
+fn switches_returns_and_loops_stand_under_their_flags(rt: HostRuntime) -> Result<(), Fail> {
+    let alloc = rt.alloc();
+    let switches = Caps {
+        switch: true,
+        ..NONE
+    };
+    let switched = switching(alloc)?;
+    let text = text_of(alloc, &switched, Target::Adaptive(switches))?;
+    assert_eq!(rt;
+        text,
+        joined(
+            alloc,
+            &[
+                START, SWITCHING, DECLARED, FLIPPED, ATTRIBUTES, FLAGS, ", !4", NODES, SWITCHES
+            ]
+        )?
+    );
+    let returns = Caps {
+        returns: true,
+        ..NONE
+    };
+    let returned = returning(alloc)?;
+    let text = text_of(alloc, &returned, Target::Adaptive(returns))?;
+    assert_eq!(rt;
+        text,
+        joined(
+            alloc,
+            &[
+                START, RETURNING, DECLARED, ATTRIBUTES, FLAGS, ", !4", NODES, RETURNS
+            ]
+        )?
+    );
+    let loops = Caps {
+        loops: true,
+        ..NONE
+    };
+    let looped = looping(alloc)?;
+    let text = text_of(alloc, &looped, Target::Adaptive(loops))?;
+    assert_eq!(rt;
+        text,
+        joined(
+            alloc,
+            &[
+                START, LOOPING, DECLARED, ATTRIBUTES, FLAGS, ", !4", NODES, LOOPS
+            ]
+        )?
+    );
     Ok(())
 }

@@ -28,6 +28,9 @@ attributes #3 = { \"entry_point\" \"required_num_qubits\"=\"01\" }
 attributes #4 = { \"entry_point\" \"required_num_results\"=\"1000000001\" }
 attributes #5 = { \"entry_point\" \"required_num_qubits\"=\"1000000000\" \"required_num_results\"=\"0\" }
 attributes #6 = { \"entry_point\" \"required_num_qubits\" }
+attributes #7 = { \"entry_point\" \"required_num_qubits\"=\"1a\" }
+attributes #8 = { \"entry_point\" \"required_num_qubits\"=\"\" }
+attributes #9 = { \"entry_point\" \"required_num_results\"=\"-0\" }
 ";
 
 /// The number of the rule that is broken first, and the line and the column where; zeros where none is.
@@ -66,7 +69,7 @@ fn told(rt: &impl Abort, alloc: Global, text: &str) -> Result<Told, Memory> {
 
 #[test]
 fn types_agree(rt: HostRuntime) -> Result<(), Fail> {
-    let rows: [(&'static str, Told); 16] = [
+    let rows: [(&'static str, Told); 30] = [
         (
             "define i64 @main() #0 {\nentry:\n  %x = add i64 1, 1\n  %y = and i1 %x, true\n  ret i64 0\n}\n",
             (1, 4, 3),
@@ -131,6 +134,108 @@ fn types_agree(rt: HostRuntime) -> Result<(), Fail> {
             "define i64 @main() #0 {\nentry:\n  %x = add i64 1, 1\n  br label %a\na:\n  %y = phi i64 [ %x, %entry ]\n  ret i64 0\n}\n",
             (0, 0, 0),
         ),
+        (
+            "define i64 @main() #0 {\nentry:\n  %x = add i64 1, 1\n  %y = icmp eq i32 %x, 1\n  ret i64 0\n}\n",
+            (1, 4, 3),
+        ),
+        (
+            "define i64 @main() #0 {\nentry:\n  %x = add i64 1, 1\n  %y = icmp eq i64 %x, 1\n  ret i64 0\n}\n",
+            (0, 0, 0),
+        ),
+        (
+            "define i64 @main() #0 {\nentry:\n  %x = add i64 1, 1\n  %y = zext i32 %x to i64\n  ret i64 0\n}\n",
+            (1, 4, 3),
+        ),
+        (
+            "define i64 @main() #0 {\nentry:\n  %x = add i32 1, 1\n  %y = zext i32 %x to i64\n  ret i64 0\n}\n",
+            (0, 0, 0),
+        ),
+        (
+            "define i64 @main() #0 {\nentry:\n  %x = trunc i32 1 to i64\n  ret i64 0\n}\n",
+            (1, 3, 3),
+        ),
+        (
+            "define i64 @main() #0 {\nentry:\n  %x = sext i32 1 to i64\n  ret i64 0\n}\n",
+            (0, 0, 0),
+        ),
+        (
+            "define i64 @main() #0 {\nentry:\n  %x = add i64 1, 1\n  %y = select i1 %x, i64 1, i64 2\n  ret i64 0\n}\n",
+            (1, 4, 3),
+        ),
+        (
+            "define i64 @main() #0 {\nentry:\n  %x = add i1 true, true\n  %y = select i1 %x, i64 1, i64 2\n  ret i64 0\n}\n",
+            (0, 0, 0),
+        ),
+        (
+            "define i64 @main() #0 {\nentry:\n  %x = add i64 1, 1\n  br i1 %x, label %a, label %a\na:\n  ret i64 0\n}\n",
+            (1, 4, 3),
+        ),
+        (
+            "define i64 @main() #0 {\nentry:\n  %x = add i1 true, true\n  br i1 %x, label %a, label %a\na:\n  ret i64 0\n}\n",
+            (0, 0, 0),
+        ),
+        (
+            "define i64 @main() #0 {\nentry:\n  %x = add i32 1, 1\n  switch i64 %x, label %a [ ]\na:\n  ret i64 0\n}\n",
+            (1, 4, 3),
+        ),
+        (
+            "define i64 @main() #0 {\nentry:\n  %x = add i64 1, 1\n  switch i64 %x, label %a [ ]\na:\n  ret i64 0\n}\n",
+            (0, 0, 0),
+        ),
+        (
+            "define i64 @main() #0 {\nentry:\n  %x = add i32 1, 1\n  ret i64 %x\n}\n",
+            (1, 4, 3),
+        ),
+        (
+            "define i64 @main() #0 {\nentry:\n  %x = add i64 1, 1\n  ret i64 %x\n}\n",
+            (0, 0, 0),
+        ),
+    ];
+    for (text, expected) in rows {
+        assert_eq!(rt; told(&rt, rt.alloc(), text)?, expected, "{text}");
+    }
+    Ok(())
+}
+
+#[test]
+fn calls_and_returns_agree(rt: HostRuntime) -> Result<(), Fail> {
+    let rows: [(&'static str, Told); 9] = [
+        (
+            "define i64 @main() #0 {\nentry:\n  call void @__quantum__qis__h__body()\n  ret i64 0\n}\n",
+            (1, 3, 3),
+        ),
+        (
+            "define i64 @main() #0 {\nentry:\n  call void @__quantum__qis__h__body(%Qubit* null, %Qubit* null)\n  ret i64 0\n}\n",
+            (1, 3, 3),
+        ),
+        (
+            "define i64 @main() #0 {\nentry:\n  call void @f(i32 1)\n  ret i64 0\n}\ndefine void @f(i64 %a) {\n  ret void\n}\n",
+            (1, 3, 3),
+        ),
+        (
+            "define i64 @main() #0 {\nentry:\n  call void @f(i64 1)\n  ret i64 0\n}\ndefine void @f(i64 %a) {\n  ret void\n}\n",
+            (0, 0, 0),
+        ),
+        (
+            "define i64 @main() #0 {\nentry:\n  %f = select i1 true, void (i64)* @known, void (i64)* @known\n  ret i64 0\n}\ndefine void @known() {\n  ret void\n}\n",
+            (1, 3, 3),
+        ),
+        (
+            "define i64 @main() #0 {\nentry:\n  %f = select i1 true, void ()* @known, void ()* @known\n  call void %f(i64 1)\n  ret i64 0\n}\ndefine void @known() {\n  ret void\n}\n",
+            (1, 4, 3),
+        ),
+        (
+            "define i64 @main() #0 {\nentry:\n  %f = select i1 true, void ()* @known, void ()* @known\n  call void %f()\n  ret i64 0\n}\ndefine void @known() {\n  ret void\n}\n",
+            (0, 0, 0),
+        ),
+        (
+            "define i64 @main() #0 {\nentry:\n  ret i64 0\n}\ndefine void @f() {\n  ret i64 0\n}\n",
+            (1, 6, 3),
+        ),
+        (
+            "define i64 @main() #0 {\nentry:\n  ret i64 0\n}\ndefine void @known() {\n  ret void\n}\n",
+            (0, 0, 0),
+        ),
     ];
     for (text, expected) in rows {
         assert_eq!(rt; told(&rt, rt.alloc(), text)?, expected, "{text}");
@@ -186,7 +291,7 @@ fn phis_have_an_entry_for_each_edge(rt: HostRuntime) -> Result<(), Fail> {
 
 #[test]
 fn first_blocks_and_switches(rt: HostRuntime) -> Result<(), Fail> {
-    let rows: [(&'static str, Told); 9] = [
+    let rows: [(&'static str, Told); 12] = [
         (
             "define i64 @main() #0 {\nentry:\n  br label %entry\n}\n",
             (3, 3, 3),
@@ -223,6 +328,18 @@ fn first_blocks_and_switches(rt: HostRuntime) -> Result<(), Fail> {
             "define i64 @main() #0 {\nentry:\n  switch i64 0, label %a [ i64 1, label %a i64 2, label %a ]\na:\n  ret i64 0\n}\n",
             (0, 0, 0),
         ),
+        (
+            "define i64 @main() #0 {\nentry:\n  ret i64 0\n}\ndefine void @f() {\nentry:\n  br label %entry\n}\n",
+            (3, 7, 3),
+        ),
+        (
+            "define i64 @main() #0 {\nentry:\n  switch i1 true, label %a [ i1 true, label %a i1 true, label %a ]\na:\n  ret i64 0\n}\n",
+            (4, 3, 3),
+        ),
+        (
+            "define i64 @main() #0 {\nentry:\n  switch i1 true, label %a [ i1 true, label %a i1 false, label %a ]\na:\n  ret i64 0\n}\n",
+            (0, 0, 0),
+        ),
     ];
     for (text, expected) in rows {
         assert_eq!(rt; told(&rt, rt.alloc(), text)?, expected, "{text}");
@@ -232,7 +349,7 @@ fn first_blocks_and_switches(rt: HostRuntime) -> Result<(), Fail> {
 
 #[test]
 fn the_entry(rt: HostRuntime) -> Result<(), Fail> {
-    let rows: [(&'static str, Told); 10] = [
+    let rows: [(&'static str, Told); 15] = [
         ("define i64 @main() {\n  ret i64 0\n}\n", (6, 1, 1)),
         (
             "define i64 @main() #0 {\nentry:\n  ret i64 0\n}\ndefine void @other() #0 {\n  ret void\n}\n",
@@ -270,6 +387,23 @@ fn the_entry(rt: HostRuntime) -> Result<(), Fail> {
             "define void @main() #0 {\nentry:\n  ret void\n}\n",
             (0, 0, 0),
         ),
+        ("declare void @d() #0\n", (6, 1, 1)),
+        (
+            "declare void @d() #0\ndefine i64 @main() #0 {\nentry:\n  ret i64 0\n}\n",
+            (0, 0, 0),
+        ),
+        (
+            "define i64 @main() #7 {\nentry:\n  ret i64 0\n}\n",
+            (7, 1, 12),
+        ),
+        (
+            "define i64 @main() #8 {\nentry:\n  ret i64 0\n}\n",
+            (7, 1, 12),
+        ),
+        (
+            "define i64 @main() #9 {\nentry:\n  ret i64 0\n}\n",
+            (7, 1, 12),
+        ),
     ];
     for (text, expected) in rows {
         assert_eq!(rt; told(&rt, rt.alloc(), text)?, expected, "{text}");
@@ -279,7 +413,7 @@ fn the_entry(rt: HostRuntime) -> Result<(), Fail> {
 
 #[test]
 fn numbers_declarations_and_names(rt: HostRuntime) -> Result<(), Fail> {
-    let rows: [(&'static str, Told); 13] = [
+    let rows: [(&'static str, Told); 20] = [
         (
             "define i64 @main() #2 {\nentry:\n  call void @__quantum__qis__h__body(%Qubit* inttoptr (i64 1 to %Qubit*))\n  ret i64 0\n}\n",
             (8, 3, 3),
@@ -330,6 +464,34 @@ fn numbers_declarations_and_names(rt: HostRuntime) -> Result<(), Fail> {
         ),
         (
             "define i64 @main() #0 {\nentry:\n  ret i64 0\n}\ndefine void @__quantum_own() {\n  ret void\n}\n",
+            (0, 0, 0),
+        ),
+        (
+            "define i64 @main() #0 {\nentry:\n  call void @__quantum__qis__h__body(%Qubit* inttoptr (i64 999999999 to %Qubit*))\n  ret i64 0\n}\n",
+            (0, 0, 0),
+        ),
+        (
+            "define i64 @main() #2 {\nentry:\n  %q = select i1 true, %Qubit* null, %Qubit* inttoptr (i64 1 to %Qubit*)\n  ret i64 0\n}\n",
+            (8, 3, 3),
+        ),
+        (
+            "define i64 @main() #2 {\nentry:\n  br label %a\na:\n  %q = phi %Qubit* [ inttoptr (i64 1 to %Qubit*), %entry ]\n  ret i64 0\n}\n",
+            (8, 5, 3),
+        ),
+        (
+            "define i64 @main() #2 {\nentry:\n  call void @f(%Qubit* inttoptr (i64 1 to %Qubit*))\n  ret i64 0\n}\ndefine void @f(%Qubit* %a) {\n  ret void\n}\n",
+            (8, 3, 3),
+        ),
+        (
+            "define i64 @main() #2 {\nentry:\n  ret i64 0\n}\ndefine %Result* @f() {\n  ret %Result* inttoptr (i64 1 to %Result*)\n}\n",
+            (8, 6, 3),
+        ),
+        (
+            "define i64 @main() #0 {\nentry:\n  call void @f(void ()* @unknown)\n  ret i64 0\n}\ndefine void @f(void ()* %g) {\n  ret void\n}\n",
+            (9, 3, 3),
+        ),
+        (
+            "define i64 @main() #0 {\nentry:\n  %f = select i1 true, void (%Qubit*)* @__quantum__qis__h__body, void (%Qubit*)* @__quantum__qis__h__body\n  ret i64 0\n}\n",
             (0, 0, 0),
         ),
     ];

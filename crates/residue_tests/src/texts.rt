@@ -8,6 +8,7 @@ use kept_items::{Caps, Target};
 use residue::Residue;
 use residue_module::to_module;
 use std::alloc::Global;
+use std::process::Abort;
 use std::test::Fail;
 
 const BASE: &str = "\
@@ -89,55 +90,14 @@ attributes #1 = { \"irreversible\" }
 
 ";
 
-const FLAGS: &str = "\
-!llvm.module.flags = !{!0, !1, !2, !3";
-
-const NODES: &str = "}
-
-!0 = !{i32 1, !\"qir_major_version\", i32 1}
-!1 = !{i32 7, !\"qir_minor_version\", i32 0}
-!2 = !{i32 1, !\"dynamic_qubit_management\", i1 false}
-!3 = !{i32 1, !\"dynamic_result_management\", i1 false}
-";
-
-const INTS: &str = "!4 = !{i32 1, !\"int_computations\", i1 true}
-";
-
-const EACH: &str = "\
-!4 = !{i32 1, !\"int_computations\", i1 true}
-!5 = !{i32 1, !\"multiple_target_branching\", i1 true}
-!6 = !{i32 1, !\"multiple_return_points\", i1 true}
-!7 = !{i32 1, !\"backwards_branching\", i1 true}
-";
-
-const START: &str = "\
+const PLAIN: &str = "\
 %Qubit = type opaque
 %Result = type opaque
 
 define i64 @main() #0 {
 entry:
   call void @__quantum__rt__initialize(i8* null)
-";
-
-const DECLARED: &str = "}
-
-declare void @__quantum__rt__initialize(i8*)
-
-declare i1 @__quantum__rt__read_result(%Result*)
-
-";
-
-const FLIPPED: &str = "\
-declare void @__quantum__qis__x__body(%Qubit*)
-
-";
-
-const ATTRIBUTES: &str = "\
-attributes #0 = { \"entry_point\" \"qir_profiles\"=\"adaptive_profile\" \"output_labeling_schema\" \"required_num_qubits\"=\"1\" \"required_num_results\"=\"1\" }
-
-";
-
-const PLAIN: &str = "  %v0 = call i1 @__quantum__rt__read_result(%Result* null)
+  %v0 = call i1 @__quantum__rt__read_result(%Result* null)
   %v1 = icmp ne i1 %v0, true
   br i1 %v1, label %b1, label %b2
 
@@ -149,14 +109,28 @@ b2:
   %v2 = phi i1 [ %v0, %entry ], [ true, %b1 ]
   call void @__quantum__rt__bool_record_output(i1 %v2, i8* null)
   ret i64 0
-";
+}
 
-const RECORDED: &str = "\
+declare void @__quantum__rt__initialize(i8*)
+
+declare i1 @__quantum__rt__read_result(%Result*)
+
+declare void @__quantum__qis__x__body(%Qubit*)
+
 declare void @__quantum__rt__bool_record_output(i1, i8*)
 
+attributes #0 = { \"entry_point\" \"qir_profiles\"=\"adaptive_profile\" \"output_labeling_schema\" \"required_num_qubits\"=\"1\" \"required_num_results\"=\"1\" }
+
 ";
 
-const SWITCHING: &str = "  %v0 = call i1 @__quantum__rt__read_result(%Result* null)
+const SWITCHING: &str = "\
+%Qubit = type opaque
+%Result = type opaque
+
+define i64 @main() #0 {
+entry:
+  call void @__quantum__rt__initialize(i8* null)
+  %v0 = call i1 @__quantum__rt__read_result(%Result* null)
   switch i1 %v0, label %b2 [ i1 true, label %b1 ]
 
 b1:
@@ -165,12 +139,26 @@ b1:
 
 b2:
   ret i64 0
+}
+
+declare void @__quantum__rt__initialize(i8*)
+
+declare i1 @__quantum__rt__read_result(%Result*)
+
+declare void @__quantum__qis__x__body(%Qubit*)
+
+attributes #0 = { \"entry_point\" \"qir_profiles\"=\"adaptive_profile\" \"output_labeling_schema\" \"required_num_qubits\"=\"1\" \"required_num_results\"=\"1\" }
+
 ";
 
-const SWITCHES: &str = "!4 = !{i32 1, !\"multiple_target_branching\", i1 true}
-";
+const RETURNING: &str = "\
+%Qubit = type opaque
+%Result = type opaque
 
-const RETURNING: &str = "  %v0 = call i1 @__quantum__rt__read_result(%Result* null)
+define i64 @main() #0 {
+entry:
+  call void @__quantum__rt__initialize(i8* null)
+  %v0 = call i1 @__quantum__rt__read_result(%Result* null)
   br i1 %v0, label %b1, label %b2
 
 b1:
@@ -178,12 +166,24 @@ b1:
 
 b2:
   ret i64 0
+}
+
+declare void @__quantum__rt__initialize(i8*)
+
+declare i1 @__quantum__rt__read_result(%Result*)
+
+attributes #0 = { \"entry_point\" \"qir_profiles\"=\"adaptive_profile\" \"output_labeling_schema\" \"required_num_qubits\"=\"1\" \"required_num_results\"=\"1\" }
+
 ";
 
-const RETURNS: &str = "!4 = !{i32 1, !\"multiple_return_points\", i1 true}
-";
+const LOOPING: &str = "\
+%Qubit = type opaque
+%Result = type opaque
 
-const LOOPING: &str = "  br label %b1
+define i64 @main() #0 {
+entry:
+  call void @__quantum__rt__initialize(i8* null)
+  br label %b1
 
 b1:
   %v0 = call i1 @__quantum__rt__read_result(%Result* null)
@@ -191,9 +191,57 @@ b1:
 
 b2:
   ret i64 0
+}
+
+declare void @__quantum__rt__initialize(i8*)
+
+declare i1 @__quantum__rt__read_result(%Result*)
+
+attributes #0 = { \"entry_point\" \"qir_profiles\"=\"adaptive_profile\" \"output_labeling_schema\" \"required_num_qubits\"=\"1\" \"required_num_results\"=\"1\" }
+
 ";
 
-const LOOPS: &str = "!4 = !{i32 1, !\"backwards_branching\", i1 true}
+const FLAGS: &str = "\
+!llvm.module.flags = !{!0, !1, !2, !3}
+
+!0 = !{i32 1, !\"qir_major_version\", i32 1}
+!1 = !{i32 7, !\"qir_minor_version\", i32 0}
+!2 = !{i32 1, !\"dynamic_qubit_management\", i1 false}
+!3 = !{i32 1, !\"dynamic_result_management\", i1 false}
+";
+
+const MORE_FLAGS: &str = "\
+!llvm.module.flags = !{!0, !1, !2, !3, !4}
+
+!0 = !{i32 1, !\"qir_major_version\", i32 1}
+!1 = !{i32 7, !\"qir_minor_version\", i32 0}
+!2 = !{i32 1, !\"dynamic_qubit_management\", i1 false}
+!3 = !{i32 1, !\"dynamic_result_management\", i1 false}
+";
+
+const INTS_FLAG: &str = "!4 = !{i32 1, !\"int_computations\", i1 true}
+";
+
+const SWITCH_FLAG: &str = "!4 = !{i32 1, !\"multiple_target_branching\", i1 true}
+";
+
+const RETURNS_FLAG: &str = "!4 = !{i32 1, !\"multiple_return_points\", i1 true}
+";
+
+const LOOPS_FLAG: &str = "!4 = !{i32 1, !\"backwards_branching\", i1 true}
+";
+
+const EACH_FLAG: &str = "\
+!llvm.module.flags = !{!0, !1, !2, !3, !4, !5, !6, !7}
+
+!0 = !{i32 1, !\"qir_major_version\", i32 1}
+!1 = !{i32 7, !\"qir_minor_version\", i32 0}
+!2 = !{i32 1, !\"dynamic_qubit_management\", i1 false}
+!3 = !{i32 1, !\"dynamic_result_management\", i1 false}
+!4 = !{i32 1, !\"int_computations\", i1 true}
+!5 = !{i32 1, !\"multiple_target_branching\", i1 true}
+!6 = !{i32 1, !\"multiple_return_points\", i1 true}
+!7 = !{i32 1, !\"backwards_branching\", i1 true}
 ";
 
 const NONE: Caps = Caps {
@@ -203,13 +251,40 @@ const NONE: Caps = Caps {
     loops: false,
 };
 
-/// The text of a residue's module.
-fn text_of(alloc: Global, residue: &Residue, target: Target) -> Result<Bytes, Memory>
-    requires { Valid residue.now target }
-{
-    let module = to_module(alloc, residue, target)?;
-    print(alloc, &module)
-}
+const EACH: Caps = Caps {
+    ints: true,
+    switch: true,
+    returns: true,
+    loops: true,
+};
+
+const INTS: Caps = Caps {
+    ints: true,
+    switch: false,
+    returns: false,
+    loops: false,
+};
+
+const SWITCH: Caps = Caps {
+    ints: false,
+    switch: true,
+    returns: false,
+    loops: false,
+};
+
+const RETURNS: Caps = Caps {
+    ints: false,
+    switch: false,
+    returns: true,
+    loops: false,
+};
+
+const LOOPS: Caps = Caps {
+    ints: false,
+    switch: false,
+    returns: false,
+    loops: true,
+};
 
 /// These texts in a row.
 fn joined(alloc: Global, pieces: &[&str]) -> Result<Bytes, Memory> {
@@ -220,12 +295,27 @@ fn joined(alloc: Global, pieces: &[&str]) -> Result<Bytes, Memory> {
     Ok(text)
 }
 
+/// The text of a residue's module for the target is these texts in a row.
+fn has_text(
+    rt: &impl Abort,
+    alloc: Global,
+    residue: &Residue,
+    target: Target,
+    pieces: &[&str],
+) -> Result<(), Memory>
+    requires { Valid residue.now target }
+{
+    let module = to_module(alloc, residue, target)?;
+    let text = print(alloc, &module)?;
+    assert_eq!(rt; text, joined(alloc, pieces)?);
+    Ok(())
+}
+
 #[test]
 fn base_stands_in_four_blocks(rt: HostRuntime) -> Result<(), Fail> {
     let alloc = rt.alloc();
     let residue = base(alloc)?;
-    let text = text_of(alloc, &residue, Target::Base)?;
-    assert_eq!(rt; text.as_slice(), BASE.as_bytes());
+    has_text(&rt, alloc, &residue, Target::Base, &[BASE])?;
     Ok(())
 }
 
@@ -233,95 +323,69 @@ fn base_stands_in_four_blocks(rt: HostRuntime) -> Result<(), Fail> {
 fn a_block_for_each_part_and_a_flag_for_each_capability(rt: HostRuntime) -> Result<(), Fail> {
     let alloc = rt.alloc();
     let residue = adaptive(alloc)?;
-    let ints = Caps {
-        ints: true,
-        switch: false,
-        returns: false,
-        loops: false,
-    };
-    let each = Caps {
-        ints: true,
-        switch: true,
-        returns: true,
-        loops: true,
-    };
-    let text = text_of(alloc, &residue, Target::Adaptive(ints))?;
-    assert_eq!(rt;
-        text,
-        joined(alloc, &[ADAPTIVE, FLAGS, ", !4", NODES, INTS])?
-    );
-    let text = text_of(alloc, &residue, Target::Adaptive(each))?;
-    assert_eq!(rt;
-        text,
-        joined(alloc, &[ADAPTIVE, FLAGS, ", !4, !5, !6, !7", NODES, EACH])?
-    );
+    let target = Target::Adaptive(INTS);
+    has_text(
+        &rt,
+        alloc,
+        &residue,
+        target,
+        &[ADAPTIVE, MORE_FLAGS, INTS_FLAG],
+    )?;
+    let target = Target::Adaptive(EACH);
+    has_text(&rt, alloc, &residue, target, &[ADAPTIVE, EACH_FLAG])?;
     Ok(())
 }
 
 #[test]
-fn a_target_without_capabilities_computes_on_bits(rt: HostRuntime) -> Result<(), Fail> {
+fn without_capabilities_bits_are_computed(rt: HostRuntime) -> Result<(), Fail> {
     let alloc = rt.alloc();
     let residue = plain(alloc)?;
-    let text = text_of(alloc, &residue, Target::Adaptive(NONE))?;
-    assert_eq!(rt;
-        text,
-        joined(
-            alloc,
-            &[
-                START, PLAIN, DECLARED, FLIPPED, RECORDED, ATTRIBUTES, FLAGS, NODES
-            ]
-        )?
-    );
+    let target = Target::Adaptive(NONE);
+    has_text(&rt, alloc, &residue, target, &[PLAIN, FLAGS])?;
     Ok(())
 }
 
 #[test]
-fn switches_returns_and_loops_stand_under_their_flags(rt: HostRuntime) -> Result<(), Fail> {
+fn a_switch_stands_under_its_flag(rt: HostRuntime) -> Result<(), Fail> {
     let alloc = rt.alloc();
-    let switches = Caps {
-        switch: true,
-        ..NONE
-    };
-    let switched = switching(alloc)?;
-    let text = text_of(alloc, &switched, Target::Adaptive(switches))?;
-    assert_eq!(rt;
-        text,
-        joined(
-            alloc,
-            &[
-                START, SWITCHING, DECLARED, FLIPPED, ATTRIBUTES, FLAGS, ", !4", NODES, SWITCHES
-            ]
-        )?
-    );
-    let returns = Caps {
-        returns: true,
-        ..NONE
-    };
-    let returned = returning(alloc)?;
-    let text = text_of(alloc, &returned, Target::Adaptive(returns))?;
-    assert_eq!(rt;
-        text,
-        joined(
-            alloc,
-            &[
-                START, RETURNING, DECLARED, ATTRIBUTES, FLAGS, ", !4", NODES, RETURNS
-            ]
-        )?
-    );
-    let loops = Caps {
-        loops: true,
-        ..NONE
-    };
-    let looped = looping(alloc)?;
-    let text = text_of(alloc, &looped, Target::Adaptive(loops))?;
-    assert_eq!(rt;
-        text,
-        joined(
-            alloc,
-            &[
-                START, LOOPING, DECLARED, ATTRIBUTES, FLAGS, ", !4", NODES, LOOPS
-            ]
-        )?
-    );
+    let residue = switching(alloc)?;
+    let target = Target::Adaptive(SWITCH);
+    has_text(
+        &rt,
+        alloc,
+        &residue,
+        target,
+        &[SWITCHING, MORE_FLAGS, SWITCH_FLAG],
+    )?;
+    Ok(())
+}
+
+#[test]
+fn two_codes_stand_under_their_flag(rt: HostRuntime) -> Result<(), Fail> {
+    let alloc = rt.alloc();
+    let residue = returning(alloc)?;
+    let target = Target::Adaptive(RETURNS);
+    has_text(
+        &rt,
+        alloc,
+        &residue,
+        target,
+        &[RETURNING, MORE_FLAGS, RETURNS_FLAG],
+    )?;
+    Ok(())
+}
+
+#[test]
+fn a_loop_stands_under_its_flag(rt: HostRuntime) -> Result<(), Fail> {
+    let alloc = rt.alloc();
+    let residue = looping(alloc)?;
+    let target = Target::Adaptive(LOOPS);
+    has_text(
+        &rt,
+        alloc,
+        &residue,
+        target,
+        &[LOOPING, MORE_FLAGS, LOOPS_FLAG],
+    )?;
     Ok(())
 }

@@ -1,5 +1,5 @@
 //! `check`.
-use crate::given::{Ports, run, text_of};
+use crate::given::{Ports, run};
 use crate::texts::{BELL, CHOSEN_QUBIT, LATE_GATE, ONE_BLOCK, UNTIL_ZERO};
 use qir_cli::Status;
 use std::test::Fail;
@@ -16,9 +16,9 @@ const OK: &[u8] = b"OK\n";
 #[test]
 fn the_rules_that_a_module_breaks_are_told(rt: HostRuntime) -> Result<(), Fail> {
     let alloc = rt.alloc();
-    let late_gate = text_of(alloc, "1", "1", LATE_GATE.as_slice())?;
-    let until_zero = text_of(alloc, "1", "1", UNTIL_ZERO.as_slice())?;
-    let chosen_qubit = text_of(alloc, "2", "1", CHOSEN_QUBIT.as_slice())?;
+    let late_gate = LATE_GATE.text(alloc)?;
+    let until_zero = UNTIL_ZERO.text(alloc)?;
+    let chosen_qubit = CHOSEN_QUBIT.text(alloc)?;
     let rows: [(&[&str], &[u8], &[u8]); 9] = [
         (&STRICT, BELL, OK),
         (&CHAIN, BELL, OK),

@@ -4,10 +4,18 @@
 #[cfg(test)]
 mod check;
 #[cfg(test)]
+mod expected;
+#[cfg(test)]
+mod forms;
+#[cfg(test)]
 mod given;
 #[cfg(test)]
-mod lower_base;
+mod lowered_texts;
 #[cfg(test)]
 mod print;
 #[cfg(test)]
+mod refused_lowerings;
+#[cfg(test)]
 mod texts;
+#[cfg(test)]
+mod words;

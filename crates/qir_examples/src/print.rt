@@ -1,20 +1,29 @@
 //! `print`, and what admission says of modules.
-use crate::given::{Outcome, Ports, blanks, lowered, run, text_of};
+use crate::forms::{Lowered, Program};
+use crate::given::{Outcome, answer, blanks};
+use crate::texts::{HIGH_QUBIT, ONE_ALLOCATION, READ_BEFORE};
 use ir_values::Bytes;
 use qir_cli::Status;
 use std::alloc::Global;
 use std::test::Fail;
 
-const ALLOCATE_A: &str = "%a = call %Qubit* @__quantum__rt__qubit_allocate()";
+/// An operand of another width than its instruction.
+const WIDTHS: Program<'static> = Program {
+    qubits: 0,
+    results: 0,
+    body: b"  %x = add i64 1, 1\n  %y = and i1 %x, true\n  ret i64 0\n",
+};
 
-const H_A: &str = "call void @__quantum__qis__h__body(%Qubit* %a)";
-
-const RELEASE_A: &str = "call void @__quantum__rt__qubit_release(%Qubit* %a)";
+const BACK_TO_THE_ENTRY: Program<'static> = Program {
+    qubits: 0,
+    results: 0,
+    body: b"  br label %entry\n",
+};
 
 const NO_ENTRY: &[u8] = b"REFUSED\ttype\t6\t1\t1\tNoEntry\n";
 
 fn print(alloc: Global, text: &[u8]) -> Result<Outcome, Fail> {
-    run(alloc, ["print"].as_slice(), text, Ports::honest())
+    answer(alloc, "print", text)
 }
 
 #[test]
@@ -44,8 +53,7 @@ attributes #0 = { \"entry_point\" }
 #[test]
 fn a_name_may_be_read_before_its_definition(rt: HostRuntime) -> Result<(), Fail> {
     let alloc = rt.alloc();
-    let body = ["%y = add i64 %x, 1", "%x = add i64 1, 1", "ret i64 0"];
-    let text = text_of(alloc, "0", "0", body.as_slice())?;
+    let text = READ_BEFORE.text(alloc)?;
     let done = print(alloc, text.as_slice())?;
     assert_eq!(rt; done.status, Status::Done);
     Ok(())
@@ -55,24 +63,16 @@ fn a_name_may_be_read_before_its_definition(rt: HostRuntime) -> Result<(), Fail>
 #[test]
 fn modules_that_break_a_rule_are_refused(rt: HostRuntime) -> Result<(), Fail> {
     let alloc = rt.alloc();
-    let high = [
-        "call void @__quantum__qis__h__body(%Qubit* inttoptr (i64 1 to %Qubit*))",
-        "ret i64 0",
-    ];
-    let widths = ["%x = add i64 1, 1", "%y = and i1 %x, true", "ret i64 0"];
     let rows: [(Bytes, &[u8]); 5] = [
         (Bytes::new(alloc), NO_ENTRY),
         (blanks(alloc, 4_194_304)?, NO_ENTRY),
         (
-            text_of(alloc, "1", "0", high.as_slice())?,
+            HIGH_QUBIT.text(alloc)?,
             b"REFUSED\ttype\t8\t3\t3\tIdRange\n",
         ),
+        (WIDTHS.text(alloc)?, b"REFUSED\ttype\t1\t4\t3\tTypes\n"),
         (
-            text_of(alloc, "0", "0", widths.as_slice())?,
-            b"REFUSED\ttype\t1\t4\t3\tTypes\n",
-        ),
-        (
-            text_of(alloc, "0", "0", ["br label %entry"].as_slice())?,
+            BACK_TO_THE_ENTRY.text(alloc)?,
             b"REFUSED\ttype\t3\t3\t3\tEntryBlock\n",
         ),
     ];
@@ -88,13 +88,34 @@ fn modules_that_break_a_rule_are_refused(rt: HostRuntime) -> Result<(), Fail> {
 #[test]
 fn the_greatest_required_number_is_not_passed(rt: HostRuntime) -> Result<(), Fail> {
     let alloc = rt.alloc();
-    let body = [ALLOCATE_A, H_A, RELEASE_A, "ret i64 0"];
-    let text = text_of(alloc, "1000000000", "0", body.as_slice())?;
-    let gates = ["h__body(%Qubit* inttoptr (i64 1000000000 to %Qubit*))"];
-    let declares = ["h__body(%Qubit*)"];
-    let expected = lowered(alloc, gates.as_slice(), declares.as_slice(), "1000000001")?;
-    let words = ["lower", "base", "4"];
-    let done = run(alloc, words.as_slice(), text.as_slice(), Ports::honest())?;
+    let program = Program {
+        qubits: 1_000_000_000,
+        results: 0,
+        body: ONE_ALLOCATION,
+    };
+    let lowered = Lowered {
+        blocks: b"  br label %body
+
+body:
+  call void @__quantum__qis__h__body(%Qubit* inttoptr (i64 1000000000 to %Qubit*))
+  br label %measurements
+
+measurements:
+  br label %output
+
+output:
+  ret i64 0
+",
+        declares: &[b"declare void @__quantum__qis__h__body(%Qubit*)"],
+        profile: "base",
+        qubits: 1_000_000_001,
+        results: 0,
+        irreversible: false,
+        capabilities: &[],
+    };
+    let expected = lowered.text(alloc)?;
+    let text = program.text(alloc)?;
+    let done = answer(alloc, "lower base 4", text.as_slice())?;
     assert_eq!(rt; done.status, Status::Done);
     assert_eq!(rt; done.written.as_slice(), expected.as_slice());
     let refused = print(alloc, expected.as_slice())?;

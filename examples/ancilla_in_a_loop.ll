@@ -1,3 +1,5 @@
+%Qubit = type opaque
+
 define i64 @main() #0 {
 entry:
   br label %next

@@ -1,3 +1,5 @@
+%Qubit = type opaque
+
 define i64 @main() #0 {
 entry:
   call void @entangle(%Qubit* null, %Qubit* inttoptr (i64 1 to %Qubit*))

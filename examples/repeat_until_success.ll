@@ -1,3 +1,6 @@
+%Qubit = type opaque
+%Result = type opaque
+
 define i64 @main() #0 {
 entry:
   br label %try

@@ -1,3 +1,6 @@
+%Qubit = type opaque
+%Result = type opaque
+
 @0 = internal constant [8 x i8] c"teleport"
 
 define i64 @main() #0 {

@@ -1,0 +1,2 @@
+-- Companions of the code. Nothing here has to be believed.
+pub mod Told

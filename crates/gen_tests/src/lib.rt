@@ -1,0 +1,5 @@
+//! Tests of the command `gen`: worked examples of its summary.
+#![tactic(auto)]
+
+#[cfg(test)]
+mod examples;

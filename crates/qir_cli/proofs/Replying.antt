@@ -2,6 +2,7 @@
 use Rattle.std.proofs.Common.{◌≡◌, ◌∙◌, ℕ, ◌<◌, ◌≤◌, Bool, true, false, List, length, refl, ap, sym, subst, arith, if◌then◌else◌}
 use Rattle.std.specs.Prelude.{nat_le, IfOk, Result, Ok, Err}
 use Rattle.ir_grammar.specs.declared.tree.ItemSyntax.{ItemSyntax}
+use Rattle.ir_module.specs.declared.tree.Module.{Module}
 use Rattle.ir_module.specs.Numbered.{Numbered}
 use Rattle.ir_module.specs.Printable.{are_bytes, IsPrintable}
 use Rattle.ir_names.specs.Module.{module_of}
@@ -12,7 +13,8 @@ use Rattle.ir_reader.specs.Answers.{MayStopWith}
 use Rattle.ir_reader.specs.Laws.{OneAnswer}
 use Rattle.ir_reader.proofs.InOrder.{reads-printable}
 use Rattle.ir_tokens.specs.declared.token.Token.{Token}
-use Rattle.ir_values.specs.declared.memory.Memory.{Memory as NoMemory}
+use Rattle.ir_reader.specs.Spelling.{Spells}
+use Rattle.run_commands.specs.Laws.{RunsAreOne, RunsExist, TracesAreOne, TracesExist}
 use Rattle.admission.specs.Admitted.{greatest_required}
 use Rattle.check_command.specs.Laws.{ReportsAreOne, ReportsExist}
 use Rattle.lowering_verdicts.specs.Laws.{LoweringHasAnAnswer, LoweringHasOneAnswer}
@@ -20,16 +22,19 @@ use Rattle.read_modules.specs.Read.{IsRead}
 use Rattle.type_check.specs.Faults.{Typed}
 use Rattle.type_check.specs.Laws.{HasOneFirstFault, TypedOrFaulty}
 use Rattle.qir_cli.specs.Admission.{Admits}
-use Rattle.qir_cli.specs.code.Stops.{Meets, stop_of}
+use Rattle.qir_cli.specs.code.AdmittedCode.{AdmitsText}
+use Rattle.qir_cli.specs.code.Stops.{DoesWell, IsReplyOf, KeepsWell, Meets, RepliesWell, stop_of}
 use Rattle.qir_cli.specs.declared.command.Command.{Command}
-use Rattle.qir_cli.specs.declared.command.Command.TheVariants.{Print, Check, Lower}
+use Rattle.qir_cli.specs.declared.command.Command.TheVariants.{Print, Check, Lower, Run, Trace}
 use Rattle.qir_cli.specs.declared.refusal.Fault.TheVariants.{TooLong}
 use Rattle.qir_cli.specs.declared.refusal.Refusal.{Refusal}
 use Rattle.qir_cli.specs.declared.refusal.Stop.{Stop}
 use Rattle.qir_cli.specs.declared.refusal.Stop.TheVariants as stop
 use Rattle.qir_cli.specs.declared.reply.Reply.{Reply}
+use Rattle.qir_cli.specs.declared.status.Status.TheVariants.{Done, Refused}
+use Rattle.qir_cli.specs.Headline.{KeepsBy}
 use Rattle.qir_cli.specs.Laws.{HasOneText, RepliesAreOne, RepliesExist}
-use Rattle.qir_cli.specs.Reading.{Reads, ReadsAs}
+use Rattle.qir_cli.specs.Reading.{Reads}
 use Rattle.qir_cli.specs.Refusals.{at_start}
 use Rattle.qir_cli.specs.Replies.{ComesTo, Does, DoesAdmitted, DoesText, limit, refused, Replies, reply_of, within_limit}
 use Rattle.qir_cli.specs.Stages.{Is, Then, refuses, leads_on, AtMostOne, AtLeastOne}
@@ -37,24 +42,8 @@ use Rattle.qir_cli.proofs.Admitting.{admits-one, admits-some}
 use Rattle.qir_cli.proofs.Checked.{checks-one, checks-some}
 use Rattle.qir_cli.proofs.Lowers.{lowers-one, lowers-some}
 use Rattle.qir_cli.proofs.Reading.{reads-one, reads-some, refused-misreads}
-use Rattle.qir_cli.proofs.Stages.{is-one, is-some, never-both, same-given, then-one, then-some}
-
-module _ (one : OneAnswer) (single : HasOneFirstFault) (reports : ReportsAreOne) (lowering : LoweringHasOneAnswer) where
-  does-one : (command : Command) (parsed : Parsed) → HasOneText command → AtMostOne (DoesAdmitted command parsed)
-  does-one Print parsed _ = is-one _
-  does-one (Check profile) parsed _ = checks-one reports profile parsed
-  does-one (Lower t budget) parsed _ = lowers-one lowering t budget parsed
-
-  text-one : (command : Command) (text : List ℕ) → HasOneText command → AtMostOne (DoesText command text)
-  text-one command text has =
-      then-one (Reads text) (Does command) (reads-one one text)
-      (λ parsed. then-one (Admits parsed) (DoesAdmitted command) (admits-one single parsed) (λ given. does-one command given has))
-
-  comes-one : (command : Command) (bytes : List ℕ) → HasOneText command → AtMostOne (ComesTo command bytes)
-  comes-one command bytes has = then-one (Is (within_limit bytes)) (DoesText command) (is-one _) (λ text. text-one command text has)
-
-  pub replies-one : RepliesAreOne
-  replies-one command bytes has r s a b = a.2 ∙ ap reply_of (comes-one command bytes has a.0 b.0 a.1 b.1) ∙ sym b.2
+use Rattle.qir_cli.proofs.Running.{runs-one, runs-some, traces-one, traces-some}
+use Rattle.qir_cli.proofs.Stages.{is-one, is-some, never-both, same-given, then-one, then-onward, then-some}
 
 -- what is within the limit
 within-given : (bytes text : List ℕ) → Ok text ≡ within_limit bytes → (text ≡ bytes) × (length bytes ≤ limit)
@@ -68,22 +57,73 @@ within-given bytes text e = by (nat_le (length bytes) limit) refl e
 abbrev pub ReadInOrder : Type 0
 ReadInOrder = (text : List ℕ) (tokens : List Token) (items : List ItemSyntax) → IsRead text tokens items → IsPrintable (module_of text items)
 
-module _ (one : OneAnswer) (judged : TypedOrFaulty) (reports : ReportsExist) (lowering : LoweringHasAnAnswer) (in-order : ReadInOrder) where
+-- of a module that was read and admitted these are known
+module _ (in-order : ReadInOrder) (text : List ℕ) (bytes : are_bytes text ≡ true) (short : length text ≤ limit) where
+  read-numbered : (parsed : Parsed) → Reads text (Ok parsed) → Numbered parsed.module
+  read-numbered parsed reads = (reads-printable in-order text bytes (omega (arith, short)) (Ok parsed) reads.spells).numbered
+
+  admitted-numbered : (parsed given : Parsed) → Reads text (Ok parsed) → Admits parsed (Ok given) → Numbered given.module
+  admitted-numbered parsed given reads a = subst (λ (p : Parsed). Numbered p.module) (sym a.same) (read-numbered parsed reads)
+
+admitted-typed : (parsed given : Parsed) → Admits parsed (Ok given) → Typed given.module greatest_required
+admitted-typed parsed given a = subst (λ (p : Parsed). Typed p.module greatest_required) (sym a.same) a.typed
+
+-- ---- one reply
+
+-- what is known of a module for a command that has one text
+abbrev Known : Command → Module → Type 0
+Known Print m = Unit {0}
+Known (Check profile) m = Unit {0}
+Known (Lower t budget) m = Unit {0}
+Known (Run schema steps backends) m = Numbered m × Typed m greatest_required
+Known (Trace steps backend) m = Numbered m × Typed m greatest_required
+
+known : ReadInOrder → (command : Command) (text : List ℕ) → HasOneText command text → length text ≤ limit → (parsed given : Parsed) → Reads text (Ok parsed) → Admits parsed (Ok given)
+    → Known command given.module
+known in-order Print text has short parsed given reads a = tt
+known in-order (Check profile) text has short parsed given reads a = tt
+known in-order (Lower t budget) text has short parsed given reads a = tt
+known in-order (Run schema steps backends) text has short parsed given reads a = (admitted-numbered in-order text has short parsed given reads a, admitted-typed parsed given a)
+known in-order (Trace steps backend) text has short parsed given reads a = (admitted-numbered in-order text has short parsed given reads a, admitted-typed parsed given a)
+
+module _ (one : OneAnswer) (single : HasOneFirstFault) (reports : ReportsAreOne) (lowering : LoweringHasOneAnswer) (in-order : ReadInOrder) (runs : RunsAreOne) (traces : TracesAreOne) where
+  does-one : (command : Command) (parsed : Parsed) → Known command parsed.module → AtMostOne (DoesAdmitted command parsed)
+  does-one Print parsed _ = is-one _
+  does-one (Check profile) parsed _ = checks-one reports profile parsed
+  does-one (Lower t budget) parsed _ = lowers-one lowering t budget parsed
+  does-one (Run schema steps backends) parsed k = runs-one parsed k.0 k.1 runs schema steps backends
+  does-one (Trace steps backend) parsed k = traces-one parsed k.0 k.1 traces steps backend
+
+  text-one : (command : Command) (text : List ℕ) → HasOneText command text → length text ≤ limit → AtMostOne (DoesText command text)
+  text-one command text has short =
+      then-one (Reads text) (Does command) (reads-one one text)
+      (λ parsed reads. then-one (Admits parsed) (DoesAdmitted command) (admits-one single parsed)
+      (λ given admits. does-one command given (known in-order command text has short parsed given reads admits)))
+
+  comes-one : (command : Command) (bytes : List ℕ) → HasOneText command bytes → AtMostOne (ComesTo command bytes)
+  comes-one command bytes has =
+      then-one (Is (within_limit bytes)) (DoesText command) (is-one _)
+      (λ text within. let w = within-given bytes text within in
+      text-one command text (subst (HasOneText command) (sym w.0) has) (subst (λ t. length t ≤ limit) (sym w.0) w.1))
+
+  pub replies-one : RepliesAreOne
+  replies-one command bytes has r s a b = a.2 ∙ ap reply_of (comes-one command bytes has a.0 b.0 a.1 b.1) ∙ sym b.2
+
+-- ---- some reply
+
+module _ (one : OneAnswer) (judged : TypedOrFaulty) (reports : ReportsExist) (lowering : LoweringHasAnAnswer) (in-order : ReadInOrder) (runs : RunsExist) (traces : TracesExist) where
   does-some : (command : Command) (parsed : Parsed) → Numbered parsed.module → Typed parsed.module greatest_required → AtLeastOne (DoesAdmitted command parsed)
   does-some Print parsed numbered typed = is-some _
   does-some (Check profile) parsed numbered typed = checks-some reports profile parsed
   does-some (Lower t budget) parsed numbered typed = lowers-some lowering t budget parsed numbered typed
-
-  admitted-some : (command : Command) (parsed given : Parsed) → Numbered parsed.module → Admits parsed (Ok given) → AtLeastOne (DoesAdmitted command given)
-  admitted-some command parsed given numbered a =
-      does-some command given (subst (λ (p : Parsed). Numbered p.module) (sym a.same) numbered) (subst (λ (p : Parsed). Typed p.module greatest_required) (sym a.same) a.typed)
+  does-some (Run schema steps backends) parsed numbered typed = runs-some parsed numbered typed runs schema steps backends
+  does-some (Trace steps backend) parsed numbered typed = traces-some parsed numbered typed traces steps backend
 
   text-some : (command : Command) (text : List ℕ) → are_bytes text ≡ true → length text ≤ limit → AtLeastOne (DoesText command text)
   text-some command text bytes short =
       then-some (Reads text) (Does command) (reads-some one text)
-      (λ parsed reads.
-      let numbered = (reads-printable in-order text bytes (omega (arith, short)) (Ok parsed) reads.spells).numbered in
-      then-some (Admits parsed) (DoesAdmitted command) (admits-some judged parsed) (λ given admits. admitted-some command parsed given numbered admits))
+      (λ parsed reads. then-some (Admits parsed) (DoesAdmitted command) (admits-some judged parsed)
+      (λ given admits. does-some command given (admitted-numbered in-order text bytes short parsed given reads admits) (admitted-typed parsed given admits)))
 
   comes-some : (command : Command) (bytes : List ℕ) → are_bytes bytes ≡ true → AtLeastOne (ComesTo command bytes)
   comes-some command bytes h =
@@ -108,38 +148,55 @@ too-long-is bytes long = by (nat_le (length bytes) limit) refl
     by true h = absurd (grind (arith, h))
     by false h = refl
 
--- the code goes through the stages
-pub meets-then : {A B : Type 0} (first : Result A Refusal → Type 0) (second : A → Result B Refusal → Type 0) (x : A) → first (Ok x) → (r : Result B Stop) → Meets (second x) r → Meets (Then first second) r
-meets-then first second x f (Ok y) m = leads_on x (Ok y) f m
-meets-then first second x f (Err (stop.Refused why)) m = leads_on x (Err why) f m
-meets-then first second x f (Err stop.Memory) m = m
-
-pub meets-memory : {A : Type 0} (ComesTo : Result A Refusal → Type 0) (s : Stop) → s ≡ stop.Memory → Meets ComesTo (Err s)
-meets-memory ComesTo s e = subst (λ s. Meets ComesTo (Err s)) (sym e) tt
-
-pub meets-refused : {A B : Type 0} (first : Result A Refusal → Type 0) (second : A → Result B Refusal → Type 0) (why : Refusal) (s : Stop) → first (Err why) → s ≡ stop.Refused why → Meets (Then first second) (Err s)
-meets-refused first second why s f e = subst (λ s. Meets (Then first second) (Err s)) (sym e) (refuses why f)
-
-pub meets-limit : (command : Command) (bytes : List ℕ) → length bytes ≤ limit → (r : Result Reply Stop) → Meets (DoesText command bytes) r → Meets (ComesTo command bytes) r
-meets-limit command bytes short r m = meets-then (Is (within_limit bytes)) (DoesText command) bytes (within-limit-is bytes short) r m
+-- ---- the code
 
 -- what the first stage stops at
 pub meets-first : {A B : Type 0} (first : Result A Refusal → Type 0) (second : A → Result B Refusal → Type 0) (s : Stop) → Meets first (Err s) → Meets (Then first second) (Err s)
 meets-first first second (stop.Refused why) m = refuses why m
 meets-first first second stop.Memory m = m
 
--- what a command does with a module that was read
-pub meets-does : (command : Command) (bytes : List ℕ) → length bytes ≤ limit → (parsed : Parsed) → ReadsAs bytes parsed → (r : Result Reply Stop) → Meets (Does command parsed) r → Meets (ComesTo command bytes) r
-meets-does command bytes short parsed reads r m = meets-limit command bytes short r (meets-then (Reads bytes) (Does command) parsed reads r m)
+pub meets-then : {A B : Type 0} (first : Result A Refusal → Type 0) (second : A → Result B Refusal → Type 0) (x : A) → first (Ok x) → (r : Result B Stop) → Meets (second x) r → Meets (Then first second) r
+meets-then first second x f (Ok y) m = leads_on x (Ok y) f m
+meets-then first second x f (Err (stop.Refused why)) m = leads_on x (Err why) f m
+meets-then first second x f (Err stop.Memory) m = m
 
-pub meets-stopped : (command : Command) (bytes : List ℕ) (e : ReadStop) (s : Stop) → MayStopWith bytes e → s ≡ stop_of e → Meets (DoesText command bytes) (Err s)
-meets-stopped command bytes (read.Refused code at) s may e = meets-refused (Reads bytes) (Does command) _ s (refused-misreads bytes code at may) e
-meets-stopped command bytes read.Memory s may e = meets-memory (DoesText command bytes) s e
+pub stopped-reads : (text : List ℕ) (e : ReadStop) → MayStopWith text e → Meets (Reads text) (Err (stop_of e))
+stopped-reads text (read.Refused code at) may = refused-misreads text code at may
+stopped-reads text read.Memory may = tt
 
-pub ok-replies : (command : Command) (bytes : List ℕ) (reply : Reply) → ComesTo command bytes (Ok reply) → Replies command bytes reply
-ok-replies command bytes reply c = (Ok reply, c, refl)
+-- a refusal isn't done
+not-done : (command : Command) (bytes : List ℕ) (why : Refusal) (reply : Reply) → reply ≡ refused why → KeepsWell command bytes reply
+not-done command bytes why reply is = λ e. let f : Refused ≡ Done = sym (ap (λ (r : Reply). r.status) is) ∙ e in cc
 
-pub refused-replies : (command : Command) (bytes : List ℕ) (why : Refusal) → ComesTo command bytes (Err why) → (r : Result Reply NoMemory) → IfOk r (λ reply. reply ≡ refused why)
-    → IfOk r (λ reply. Replies command bytes reply)
-refused-replies command bytes why c (Ok reply) e = (Err why, c, e)
-refused-replies command bytes why c (Err x) e = e
+-- the reply of what a command did with a module that was admitted
+pub reply-does : (command : Command) (parsed : Parsed) (r : Result Reply Stop) → Meets (DoesAdmitted command parsed) r
+    → IfOk r (λ reply. (bytes : List ℕ) → Spells parsed.module bytes → KeepsBy command bytes reply.text) → (reply : Reply) → IsReplyOf r reply → DoesWell command parsed reply
+reply-does command parsed (Ok x) m keeps reply is = subst (DoesWell command parsed) (sym is) ((Ok x, m, refl), λ bytes spells e. keeps bytes spells)
+reply-does command parsed (Err (stop.Refused why)) m keeps reply is = ((Err why, m, is), λ bytes spells. not-done command bytes why reply is)
+reply-does command parsed (Err stop.Memory) m keeps reply is = absurd is
+
+admits-spells : (text : List ℕ) (r : Result Parsed Refusal) → AdmitsText text r → IfOk r (λ given. Spells given.module text)
+admits-spells text r (refuses why f) = tt
+admits-spells text r (leads_on parsed (Ok given) f g) = subst (λ (p : Parsed). Spells p.module text) (sym g.same) f.spells
+admits-spells text r (leads_on parsed (Err why) f g) = tt
+
+-- it is the reply to the text
+pub does-replies : (command : Command) (text : List ℕ) → length text ≤ limit → (given : Parsed) → AdmitsText text (Ok given) → (reply : Reply) → DoesWell command given reply
+    → RepliesWell command text reply
+does-replies command text short given a reply d = (
+  (d.0.0, leads_on text d.0.0 (within-limit-is text short) (then-onward (Reads text) Admits (DoesAdmitted command) (Ok given) a d.0.0 d.0.1), d.0.2),
+  d.1 text (admits-spells text (Ok given) a),
+)
+
+-- the reply to a text that is refused
+pub stopped-replies : (command : Command) (text : List ℕ) → length text ≤ limit → (s : Stop) → Meets (AdmitsText text) (Err s) → (reply : Reply) → IsReplyOf (Err s) reply → RepliesWell command text reply
+stopped-replies command text short (stop.Refused why) m reply is = (
+  (Err why, leads_on text (Err why) (within-limit-is text short) (then-onward (Reads text) Admits (DoesAdmitted command) (Err why) m), is),
+  not-done command text why reply is,
+)
+stopped-replies command text short stop.Memory m reply is = absurd is
+
+-- the reply to one that is too long
+pub too-long-replies : (command : Command) (bytes : List ℕ) → limit < length bytes → (reply : Reply) → reply ≡ refused (at_start TooLong) → RepliesWell command bytes reply
+too-long-replies command bytes long reply is =
+    ((Err (at_start TooLong), refuses (at_start TooLong) (too-long-is bytes long), is), not-done command bytes (at_start TooLong) reply is)

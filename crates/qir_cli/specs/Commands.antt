@@ -10,9 +10,13 @@ use Rattle.ir_values.specs.Decimals.{decimal_value}
 use Rattle.kept_items.specs.declared.target.Caps.{Caps}
 use Rattle.kept_items.specs.declared.target.Target.TheVariants as target
 use Rattle.profile_rules.specs.declared.finding.Form.{Form}
+use Rattle.output_lines.specs.declared.last.Schema.{Schema}
 use Rattle.profile_rules.specs.declared.finding.Form.TheVariants.{Strict, Chain}
 use Rattle.qir_cli.specs.declared.command.Command.{Command}
-use Rattle.qir_cli.specs.declared.command.Command.TheVariants.{Print, Check, Lower}
+use Rattle.qir_cli.specs.declared.command.Command.TheVariants.{Print, Check, Lower, Run, Trace}
+use Rattle.run_commands.specs.Words.{schema_word, script_word, scripts_word}
+use Rattle.shots.specs.declared.backend.Backend.{Backend}
+use Rattle.shots.specs.declared.backend.Backend.TheVariants.{Bits}
 
 -- the bytes of the words
 abbrev pub texts_of : {Z : Type 0} → List (String Z) → List (List ℕ)
@@ -61,16 +65,54 @@ lower_of (name ∷ budget ∷ []) = if same_text name (codes "base") then option
 lower_of (name ∷ budget ∷ caps ∷ []) = if same_text name (codes "adaptive") then lower_adaptive budget (caps_of caps) else None
 lower_of (name ∷ budget ∷ caps ∷ word ∷ words) = None
 
+-- the most steps of a shot
+abbrev pub greatest_steps : ℕ
+greatest_steps = 1000000
+
+abbrev pub steps_word : List ℕ → Option ℕ
+steps_word word = number_word 1 greatest_steps word
+
+abbrev pub run_with : Option Schema → Option ℕ → Option (List Backend) → Option Command
+run_with None steps backends = None
+run_with (Some schema) None backends = None
+run_with (Some schema) (Some steps) backends = option_map (Run schema steps) backends
+
+abbrev pub run_of : List (List ℕ) → Option Command
+run_of [] = None
+run_of (name ∷ []) = None
+run_of (name ∷ schema ∷ []) = None
+run_of (name ∷ schema ∷ steps ∷ []) =
+    if same_text name (codes "bits") then run_with (schema_word schema) (steps_word steps) (Some (Bits ∷ [])) else None
+run_of (name ∷ schema ∷ steps ∷ outcomes ∷ []) =
+    if same_text name (codes "script") then run_with (schema_word schema) (steps_word steps) (scripts_word outcomes) else None
+run_of (name ∷ schema ∷ steps ∷ outcomes ∷ word ∷ words) = None
+
+abbrev pub trace_with : Option ℕ → Option Backend → Option Command
+trace_with None backend = None
+trace_with (Some steps) backend = option_map (Trace steps) backend
+
+abbrev pub trace_of : List (List ℕ) → Option Command
+trace_of [] = None
+trace_of (name ∷ []) = None
+trace_of (name ∷ steps ∷ []) = if same_text name (codes "bits") then trace_with (steps_word steps) (Some Bits) else None
+trace_of (name ∷ steps ∷ outcome ∷ []) =
+    if same_text name (codes "script") then trace_with (steps_word steps) (script_word outcome) else None
+trace_of (name ∷ steps ∷ outcome ∷ word ∷ words) = None
+
 -- the command that words are, compared exactly
 abbrev pub command_of : List (List ℕ) → Option Command
 command_of [] = None
 command_of (name ∷ words) =
     if same_text name (codes "print") then print_of words
     else (if same_text name (codes "check") then check_of words
-    else (if same_text name (codes "lower") then lower_of words else None))
+    else (if same_text name (codes "lower") then lower_of words
+    else (if same_text name (codes "run") then run_of words
+    else (if same_text name (codes "trace") then trace_of words else None))))
 
 -- the budget of a command is within its limit, as that of words is
 abbrev pub IsLimited : Command → Type 0
 IsLimited Print = ⊤
 IsLimited (Check profile) = ⊤
 IsLimited (Lower target budget) = budget ≤ greatest_budget
+IsLimited (Run schema steps backends) = ⊤
+IsLimited (Trace steps backend) = ⊤

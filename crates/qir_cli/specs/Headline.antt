@@ -9,7 +9,7 @@ use Rattle.sound_lowering.specs.Programs.{IsLowered}
 use Rattle.sound_lowering.specs.Sound.{IsSound}
 use Rattle.qir_cli.specs.Commands.{command_of}
 use Rattle.qir_cli.specs.declared.command.Command.{Command}
-use Rattle.qir_cli.specs.declared.command.Command.TheVariants.{Print, Check, Lower}
+use Rattle.qir_cli.specs.declared.command.Command.TheVariants.{Print, Check, Lower, Run, Trace}
 
 -- The bytes spell a source, and the text, which is canonical, its lowered module: made of all configurations that constant evaluation
 -- reaches within the budget, it passes the profile and does what the source does.
@@ -27,6 +27,8 @@ abbrev pub KeepsBy : Command → List ℕ → List ℕ → Type 0
 KeepsBy Print bytes text = ⊤
 KeepsBy (Check profile) bytes text = ⊤
 KeepsBy (Lower t budget) bytes text = KeepsSource t budget bytes text
+KeepsBy (Run schema steps backends) bytes text = ⊤
+KeepsBy (Trace steps backend) bytes text = ⊤
 
 -- The words are a command; of all the bytes that the source had left, where it tells them, the text that was written keeps this.
 pub record WritesKept (words : List (List ℕ)) (left taken taken' : Option (List ℕ)) : Type 0 where

@@ -2,19 +2,21 @@
 use Rattle.std.specs.Prelude.{◌≡◌, ℕ, true, List}
 use Rattle.ir_module.specs.Printable.{are_bytes}
 use Rattle.qir_cli.specs.declared.command.Command.{Command}
-use Rattle.qir_cli.specs.declared.command.Command.TheVariants.{Print, Check, Lower}
+use Rattle.qir_cli.specs.declared.command.Command.TheVariants.{Print, Check, Lower, Run, Trace}
 use Rattle.qir_cli.specs.Replies.{Replies}
 use Rattle.qir_cli.specs.Stages.{AtMostOne, AtLeastOne}
 
--- the commands that have one text for an input
-abbrev pub HasOneText : Command → Type 0
-HasOneText Print = Unit {0}
-HasOneText (Check profile) = Unit {0}
-HasOneText (Lower target budget) = Unit {0}
+-- the commands that have one text for an input: `run` and `trace` where it is a list of bytes, which every input is
+abbrev pub HasOneText : Command → List ℕ → Type 0
+HasOneText Print bytes = Unit {0}
+HasOneText (Check profile) bytes = Unit {0}
+HasOneText (Lower target budget) bytes = Unit {0}
+HasOneText (Run schema steps backends) bytes = are_bytes bytes ≡ true
+HasOneText (Trace steps backend) bytes = are_bytes bytes ≡ true
 
 -- they have at most one reply to it
 abbrev pub RepliesAreOne : Type 0
-RepliesAreOne = (command : Command) (bytes : List ℕ) → HasOneText command → AtMostOne (Replies command bytes)
+RepliesAreOne = (command : Command) (bytes : List ℕ) → HasOneText command bytes → AtMostOne (Replies command bytes)
 
 -- every command has a reply to every list of bytes
 abbrev pub RepliesExist : Type 0

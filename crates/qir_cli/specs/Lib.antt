@@ -8,6 +8,7 @@ pub mod Outcomes
 pub mod Reading
 pub mod Refusals
 pub mod Replies
+pub mod Running
 pub mod Stages
 pub mod Statuses
 pub mod code

@@ -1,13 +1,14 @@
 -- What a call of the program read and wrote.
-use Rattle.std.specs.Prelude.{◌≡◌, ℕ, ◌<◌, List, length, take, Option, None, Some, IfSome, ⊤}
+use Rattle.std.specs.Prelude.{◌≡◌, ◌⊎◌, ℕ, ◌<◌, List, [], length, take, Option, None, Some, IfSome, ⊤}
 use Rattle.qir_cli.specs.declared.command.Command.{Command}
-use Rattle.qir_cli.specs.declared.command.Command.TheVariants.{Print, Check, Lower}
+use Rattle.qir_cli.specs.declared.command.Command.TheVariants.{Print, Check, Lower, Run, Trace}
 use Rattle.qir_cli.specs.declared.reply.Reply.{Reply}
 use Rattle.qir_cli.specs.declared.status.Status.{Status}
 use Rattle.qir_cli.specs.declared.status.Status.TheVariants.{Done, Refused, BadWords, Stopped, ReadFault, WriteFault, Memory}
 use Rattle.qir_cli.specs.Commands.{command_of}
 use Rattle.qir_cli.specs.Replies.{Replies}
 use Rattle.qir_ports.specs.Known.{Takes}
+use Rattle.run_commands.specs.Shots.{AreWholeLines}
 
 -- the statuses that come with the whole of a reply
 abbrev pub IsAnswered : Status → Type 0
@@ -25,6 +26,8 @@ WritesAtOnce None = ⊤
 WritesAtOnce (Some Print) = ⊤
 WritesAtOnce (Some (Check profile)) = ⊤
 WritesAtOnce (Some (Lower target budget)) = ⊤
+WritesAtOnce (Some (Run schema steps backends)) = ⊥
+WritesAtOnce (Some (Trace steps backend)) = ⊥
 
 -- the statuses with which these words write nothing
 abbrev pub IsUnwritten : List (List ℕ) → Status → Type 0
@@ -57,3 +60,14 @@ pub record PartlyAnswered (words : List (List ℕ)) (left taken taken' : Option 
   pub count : ℕ
   pub not_all : count < length has.reply.text
   pub written : Takes taken (take count has.reply.text) taken'
+
+-- the first lines of it were written, each whole
+pub record FirstLines (words : List (List ℕ)) (left taken taken' : Option (List ℕ)) : Type 0 where
+  pub has : HasReply words left
+  pub count : ℕ
+  pub whole : AreWholeLines (take count has.reply.text)
+  pub written : Takes taken (take count has.reply.text) taken'
+
+-- nothing was written, or such lines
+abbrev pub WritesLines : List (List ℕ) → (left taken taken' : Option (List ℕ)) → Type 0
+WritesLines words left taken taken' = Takes taken [] taken' ⊎ FirstLines words left taken taken'

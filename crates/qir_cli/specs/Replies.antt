@@ -6,7 +6,7 @@ use Rattle.ir_reader.specs.declared.parsed.Parsed.{Parsed}
 use Rattle.qir_cli.specs.Admission.{Admits}
 use Rattle.qir_cli.specs.Checking.{Checks}
 use Rattle.qir_cli.specs.declared.command.Command.{Command}
-use Rattle.qir_cli.specs.declared.command.Command.TheVariants.{Print, Check, Lower}
+use Rattle.qir_cli.specs.declared.command.Command.TheVariants.{Print, Check, Lower, Run, Trace}
 use Rattle.qir_cli.specs.declared.refusal.Fault.TheVariants.{TooLong}
 use Rattle.qir_cli.specs.declared.refusal.Refusal.{Refusal}
 use Rattle.qir_cli.specs.declared.reply.Reply.{Reply}
@@ -14,6 +14,7 @@ use Rattle.qir_cli.specs.declared.status.Status.TheVariants.{Done, Refused}
 use Rattle.qir_cli.specs.Lowering.{Lowers}
 use Rattle.qir_cli.specs.Reading.{Reads}
 use Rattle.qir_cli.specs.Refusals.{at_start, refusal_line}
+use Rattle.qir_cli.specs.Running.{RunsShots, TracesShot}
 use Rattle.qir_cli.specs.Stages.{Then, Is}
 
 -- the greatest number of bytes of an input
@@ -32,6 +33,8 @@ abbrev pub DoesAdmitted : Command → Parsed → Result Reply Refusal → Type 0
 DoesAdmitted Print parsed = Is (Ok (printed parsed.module))
 DoesAdmitted (Check profile) parsed = Checks profile parsed
 DoesAdmitted (Lower target budget) parsed = Lowers target budget parsed
+DoesAdmitted (Run schema steps backends) parsed = RunsShots schema steps backends parsed
+DoesAdmitted (Trace steps backend) parsed = TracesShot steps backend parsed
 
 -- with one that was read
 abbrev pub Does : Command → Parsed → Result Reply Refusal → Type 0
@@ -55,6 +58,10 @@ reply_of (Err why) = refused why
 abbrev pub too_long : Reply
 too_long = refused (at_start TooLong)
 
+-- the reply of what a stage comes to
+abbrev pub IsReplyTo : (Result Reply Refusal → Type 0) → Reply → Type 0
+IsReplyTo Comes reply = (end : Result Reply Refusal) × Comes end × (reply ≡ reply_of end)
+
 -- the command's reply to these bytes
 abbrev pub Replies : Command → List ℕ → Reply → Type 0
-Replies command bytes reply = (end : Result Reply Refusal) × ComesTo command bytes end × (reply ≡ reply_of end)
+Replies command bytes reply = IsReplyTo (ComesTo command bytes) reply

@@ -1,10 +1,13 @@
-//! The stage of admission.
-ghost use Rattle.std.specs.Prelude.{◌≡◌, map};
+//! The stages of reading and admission.
+ghost use Rattle.std.specs.Prelude.{◌≡◌, ◌≤◌, length, map, IfOk};
+ghost use Rattle.finding_lines.specs.Lines.{ArePlaces};
 ghost use Rattle.ir_module.specs.Numbered.{Numbered};
+ghost use Rattle.ir_module.specs.Printable.{IsPrintable};
 ghost use Rattle.ir_module.specs.Spots.{spots};
 ghost use Rattle.qir_cli.specs.Admission as spec;
-ghost use Rattle.qir_cli.specs.code.AdmittedCode.{IsPlaced, admit_stop, given_of};
+ghost use Rattle.qir_cli.specs.code.AdmittedCode.{AdmitsText, IsPlaced, admit_stop, given_of};
 ghost use Rattle.qir_cli.specs.code.Stops.{Meets};
+ghost use Rattle.qir_cli.specs.Replies.{limit};
 
 use crate::refusal::{Fault, Refusal, Stop};
 use admission::{AdmitStop, Checked, admit};
@@ -19,8 +22,19 @@ pub(crate) struct Admitted {
     pub(crate) places: Places,
 }
 
+/// Reads and admits the module that a text spells, of at most 4,194,304 bytes.
+pub(crate) fn admit_text(alloc: Global, text: &[u8]) -> Result<Admitted, Stop>
+    requires { length text.now ≤ limit }
+    ensures meets { Meets (AdmitsText text.now) (given_of result) }
+    ensures places { IfOk result (λ a. ArePlaces a.checked.tree a.places) }
+    ensures printable { IfOk result (λ a. IsPrintable a.checked.tree) }
+{
+    let parsed = ir_reader::read(alloc, text)?;
+    admit_module(alloc, parsed)
+}
+
 /// Admits a module that was read.
-pub(crate) fn admit_module(alloc: Global, parsed: Parsed) -> Result<Admitted, Stop>
+fn admit_module(alloc: Global, parsed: Parsed) -> Result<Admitted, Stop>
     requires numbered { Numbered parsed.module }
     requires placed { map (λ p. p.0) parsed.places ≡ spots parsed.module }
     ensures { Meets (spec.Admits parsed) (given_of result) }

@@ -1,48 +1,80 @@
 //! The commands, from their words.
-ghost use Rattle.std.specs.Prelude.{◌≡◌, ◌≤◌, IfSome};
+ghost use Rattle.std.specs.Prelude.{◌≡◌, ◌≤◌, [], ◌∷◌, Some, IfSome, IsSome, IfOk, OnErr};
 ghost use Rattle.std.specs.Option.{option_map};
 ghost use Rattle.std.specs.String.{string_bytes};
 ghost use Rattle.ir_values.specs.Calls.{same_text};
 ghost use Rattle.qir_cli.specs.Commands as spec;
 ghost use Rattle.qir_cli.specs.declared.command.Command.TheVariants as spec_command;
+ghost use Rattle.run_commands.specs.Words.{schema_word, script_word, scripts_word};
+ghost use Rattle.shots.specs.declared.backend.Backend.TheVariants.{Bits};
 
 use capability_words::caps_of;
 use check_command::Profile;
-use ir_values::parse_decimal;
+use ir_values::{Memory, parse_decimal};
 use kept_items::Target;
+use output_lines::Schema;
 use profile_rules::Form;
+use run_commands::{Backends, schema_of, script_of, scripts_of};
+use shots::Backend;
+use std::alloc::Global;
 
 /// The most configurations of a lowering.
 const GREATEST_BUDGET: u64 = 1_000_000;
 
+/// The most steps of a shot.
+const GREATEST_STEPS: u64 = 1_000_000;
+
 /// A command.
-#[derive(Clone, Copy, Debug, PartialEq, Eq)]
+#[derive(Debug, Drop)]
 pub enum Command {
     /// `print`: writes the canonical text of a module.
     Print,
     /// `check base strict`, `check base chain` and `check adaptive`: tells the rules of a profile that a module breaks.
-    Check { profile: Profile },
+    Check {
+        profile: Profile,
+    },
     /// `lower base BUDGET` and `lower adaptive BUDGET CAPS`: lowers a module for a target, within a budget of
     /// configurations from 1 to 1,000,000.
-    Lower { target: Target, budget: u32 },
+    Lower {
+        target: Target,
+        budget: u32,
+    },
+    /// `run script SCHEMA STEPS OUTCOMES` and `run bits SCHEMA STEPS`: runs a module with each backend, in at most so many
+    /// steps, from 1 to 1,000,000, and tells the records of these shots.
+    Run {
+        schema: Schema,
+        steps: u64,
+        backends: Backends,
+    },
+    /// `trace script STEPS OUTCOME` and `trace bits STEPS`: runs a module with a backend, in at most so many steps, from 1 to
+    /// 1,000,000, and tells the events of this shot.
+    Trace {
+        steps: u64,
+        backend: Backend,
+    },
 }
 
-/// The command that the words are, compared exactly, if they are one.
-pub(crate) fn command_of(words: &[String]) -> Option<Command>
-    ensures is { result ≡ spec.command_of (spec.texts_of words.now) }
-    ensures limited { IfSome result spec.IsLimited }
+/// The command that the words are, compared exactly, if they are one. Memory may be wanted only where they are.
+pub(crate) fn command_of(alloc: Global, words: &[String]) -> Result<Option<Command>, Memory>
+    ensures is { IfOk result (λ o. o ≡ spec.command_of (spec.texts_of words.now)) }
+    ensures memory { OnErr result (IsSome (spec.command_of (spec.texts_of words.now))) }
+    ensures limited { IfOk result (λ o. IfSome o spec.IsLimited) }
 {
     let [name, rest @ ..] = words else {
-        return None;
+        return Ok(None);
     };
     if is(name, b"print") {
-        print_of(rest)
+        Ok(print_of(rest))
     } else if is(name, b"check") {
-        check_of(rest)
+        Ok(check_of(rest))
     } else if is(name, b"lower") {
-        lower_of(rest)
+        Ok(lower_of(rest))
+    } else if is(name, b"run") {
+        run_of(alloc, rest)
+    } else if is(name, b"trace") {
+        trace_of(alloc, rest)
     } else {
-        None
+        Ok(None)
     }
 }
 
@@ -89,6 +121,120 @@ fn lower_for(target: Target, budget: &String) -> Option<Command>
 {
     let budget = budget_word(budget.as_str().as_bytes())?;
     Some(Command::Lower { target, budget })
+}
+
+fn run_of(alloc: Global, words: &[String]) -> Result<Option<Command>, Memory>
+    ensures is { IfOk result (λ o. o ≡ spec.run_of (spec.texts_of words.now)) }
+    ensures memory { OnErr result (IsSome (spec.run_of (spec.texts_of words.now))) }
+    ensures limited { IfOk result (λ o. IfSome o spec.IsLimited) }
+{
+    match words {
+        [name, schema, steps] if is(name, b"bits") => run_bits(alloc, schema, steps),
+        [name, schema, steps, outcomes] if is(name, b"script") => {
+            run_script(alloc, schema, steps, outcomes)
+        }
+        _ => Ok(None),
+    }
+}
+
+/// The run of one shot with classical bits.
+fn run_bits(alloc: Global, schema: &String, steps: &String) -> Result<Option<Command>, Memory>
+    ensures is { IfOk result (λ o. o ≡ spec.run_with (schema_word (string_bytes schema.now))
+        (spec.steps_word (string_bytes steps.now)) (Some (Bits ∷ []))) }
+    ensures memory { OnErr result (IsSome (spec.run_with (schema_word (string_bytes schema.now))
+        (spec.steps_word (string_bytes steps.now)) (Some (Bits ∷ [])))) }
+    ensures limited { IfOk result (λ o. IfSome o spec.IsLimited) }
+{
+    let Some(schema) = schema_of(schema.as_str().as_bytes()) else {
+        return Ok(None);
+    };
+    let Some(steps) = steps_word(steps.as_str().as_bytes()) else {
+        return Ok(None);
+    };
+    let mut backends = Backends::new(alloc);
+    backends.push(Backend::Bits)?;
+    Ok(Some(Command::Run {
+        schema,
+        steps,
+        backends,
+    }))
+}
+
+/// The run of shots with the bits that a word writes.
+fn run_script(
+    alloc: Global,
+    schema: &String,
+    steps: &String,
+    outcomes: &String,
+) -> Result<Option<Command>, Memory>
+    ensures is { IfOk result (λ o. o ≡ spec.run_with (schema_word (string_bytes schema.now))
+        (spec.steps_word (string_bytes steps.now)) (scripts_word (string_bytes outcomes.now))) }
+    ensures memory { OnErr result (IsSome (spec.run_with (schema_word (string_bytes schema.now))
+        (spec.steps_word (string_bytes steps.now)) (scripts_word (string_bytes outcomes.now)))) }
+    ensures limited { IfOk result (λ o. IfSome o spec.IsLimited) }
+{
+    let Some(schema) = schema_of(schema.as_str().as_bytes()) else {
+        return Ok(None);
+    };
+    let Some(steps) = steps_word(steps.as_str().as_bytes()) else {
+        return Ok(None);
+    };
+    let Some(backends) = scripts_of(alloc, outcomes.as_str())? else {
+        return Ok(None);
+    };
+    Ok(Some(Command::Run {
+        schema,
+        steps,
+        backends,
+    }))
+}
+
+fn trace_of(alloc: Global, words: &[String]) -> Result<Option<Command>, Memory>
+    ensures is { IfOk result (λ o. o ≡ spec.trace_of (spec.texts_of words.now)) }
+    ensures memory { OnErr result (IsSome (spec.trace_of (spec.texts_of words.now))) }
+    ensures limited { IfOk result (λ o. IfSome o spec.IsLimited) }
+{
+    match words {
+        [name, steps] if is(name, b"bits") => Ok(trace_bits(steps)),
+        [name, steps, outcome] if is(name, b"script") => trace_script(alloc, steps, outcome),
+        _ => Ok(None),
+    }
+}
+
+/// The trace of a shot with classical bits.
+fn trace_bits(steps: &String) -> Option<Command>
+    ensures is { result ≡ spec.trace_with (spec.steps_word (string_bytes steps.now)) (Some Bits) }
+    ensures limited { IfSome result spec.IsLimited }
+{
+    let steps = steps_word(steps.as_str().as_bytes())?;
+    Some(Command::Trace {
+        steps,
+        backend: Backend::Bits,
+    })
+}
+
+/// The trace of a shot with the bits that a word writes.
+fn trace_script(alloc: Global, steps: &String, outcome: &String) -> Result<Option<Command>, Memory>
+    ensures is { IfOk result (λ o. o ≡ spec.trace_with (spec.steps_word (string_bytes steps.now))
+        (script_word (string_bytes outcome.now))) }
+    ensures memory { OnErr result (IsSome (spec.trace_with (spec.steps_word (string_bytes steps.now))
+        (script_word (string_bytes outcome.now)))) }
+    ensures limited { IfOk result (λ o. IfSome o spec.IsLimited) }
+{
+    let Some(steps) = steps_word(steps.as_str().as_bytes()) else {
+        return Ok(None);
+    };
+    let Some(backend) = script_of(alloc, outcome.as_str())? else {
+        return Ok(None);
+    };
+    Ok(Some(Command::Trace { steps, backend }))
+}
+
+/// The bound of steps that a word writes.
+fn steps_word(word: &[u8]) -> Option<u64>
+    ensures { result ≡ spec.steps_word word.now }
+{
+    number_word(word, 1, GREATEST_STEPS)
 }
 
 /// The budget that a word writes.

@@ -2,12 +2,14 @@
 #![tactic(auto)]
 
 mod admitted;
+mod answering;
 mod command;
 mod laws;
 mod lowering;
 mod program;
 mod refusal;
 mod reply;
+mod sending;
 mod status;
 
 pub use command::Command;

@@ -1,18 +1,18 @@
 //! The whole program, over any source and sink.
 ghost use Rattle.std.specs.Prelude.{◌≡◌, ◌≤◌, ◌+◌, ◌↔◌, None};
 ghost use Rattle.ir_values.specs.Counts.{Rose};
-ghost use Rattle.qir_ports.specs.Known.{Takes, GivesUpTo};
+ghost use Rattle.qir_ports.specs.Known.{GivesUpTo};
 ghost use Rattle.qir_cli.specs.Commands.{command_of, texts_of};
-ghost use Rattle.qir_cli.specs.code.Stops.{Sends};
 ghost use Rattle.qir_cli.specs.Headline.{WritesKept};
-ghost use Rattle.qir_cli.specs.Outcomes.{Answered, PartlyAnswered, IsAnswered, IsUnwritten};
+ghost use Rattle.qir_cli.specs.Outcomes.{Answered, PartlyAnswered, WritesLines, IsAnswered, IsUnwritten};
 ghost use Rattle.qir_cli.specs.Replies.{limit};
 
-use crate::reply::Reply;
+use crate::answering::answer;
+use crate::command::command_of;
+use crate::refusal::{Fault, Stop};
+use crate::sending::send;
 use crate::status::Status;
-use crate::{command, reply};
-use ir_values::Memory;
-use qir_ports::{ReadError, Sink, Source, read_all, write_all};
+use qir_ports::{ReadError, Sink, Source, read_all};
 use std::alloc::Global;
 
 /// The most bytes that an input has.
@@ -25,8 +25,8 @@ const LIMIT: usize = 4_194_304;
 /// - `ReadFault` comes only where a read failed, and then nothing is written.
 /// - `WriteFault` comes only where a write failed, and then a beginning of the reply was written, and
 ///   not all of it.
-/// - `Memory` may come wherever memory is asked for, and then nothing is written by the commands that
-///   make their whole text first.
+/// - `Memory` may come wherever memory is asked for. Then nothing is written by the commands that make
+///   their whole text first, and by `run` and `trace` the first lines of the reply, each whole, or none.
 /// - Every other status comes with the whole of the reply that the command has to all the bytes that
 ///   the source had left, where it tells them.
 /// - With `Done`, `lower` has written a text that keeps what the module of those bytes does.
@@ -46,30 +46,23 @@ pub fn qir<S: Source, K: Sink>(
         (K.taken out.old) (K.taken out.new) result }
     ensures partly_answered { result ≡ Status.WriteFault → PartlyAnswered (texts_of words.now.items)
         (S.left input.old) (K.taken out.old) (K.taken out.new) }
+    ensures whole_lines { result ≡ Status.Memory → WritesLines (texts_of words.now.items)
+        (S.left input.old) (K.taken out.old) (K.taken out.new) }
     ensures kept { result ≡ Status.Done → WritesKept (texts_of words.now.items) (S.left input.old)
         (K.taken out.old) (K.taken out.new) }
 {
-    let Some(command) = command::command_of(words.as_slice()) else {
+    let Ok(known) = command_of(alloc, words.as_slice()) else {
+        return Status::Memory;
+    };
+    let Some(command) = known else {
         return Status::BadWords;
     };
     match read_all(alloc, input, LIMIT) {
-        Ok(text) => send(out, reply::reply_to(alloc, command, text.as_slice())),
-        Err(ReadError::TooLong) => send(out, reply::too_long(alloc)),
+        Ok(text) => answer(alloc, &command, text.as_slice(), out),
+        Err(ReadError::TooLong) => {
+            send(alloc, out, Err(Stop::Refused(Fault::TooLong.at_start())))
+        }
         Err(ReadError::Failed) => Status::ReadFault,
         Err(ReadError::Memory) => Status::Memory,
-    }
-}
-
-/// Writes a reply, if there was memory for it.
-fn send<K: Sink>(out: &mut K, reply: Result<Reply, Memory>) -> Status
-    ensures { Sends reply (K.taken out.old) (K.taken out.new) (K.faults out.old) (K.faults out.new)
-        (out.new ≡ out.old) result }
-{
-    match reply {
-        Ok(reply) => match write_all(out, reply.text.as_slice()) {
-            Ok(()) => reply.status,
-            Err(_) => Status::WriteFault,
-        },
-        Err(Memory) => Status::Memory,
     }
 }

@@ -1,20 +1,14 @@
-//! The replies of commands to texts.
-ghost use Rattle.std.specs.Prelude.{◌≡◌, ◌≤◌, ℕ, List, length, IfOk, Ok as Gives};
+//! The replies of commands, and those that make their whole text first.
+ghost use Rattle.std.specs.Prelude.{◌≡◌, IfOk, Ok as Gives};
 ghost use Rattle.finding_lines.specs.Lines.{ArePlaces};
-ghost use Rattle.ir_module.specs.Printable.{IsPrintable};
-ghost use Rattle.ir_reader.specs.Spelling.{Spells};
 ghost use Rattle.qir_cli.specs.Checking.{Checks, reported};
 ghost use Rattle.qir_cli.specs.code.AdmittedCode.{parsed_of};
-ghost use Rattle.qir_cli.specs.code.Stops.{KeepsWell, Meets};
-ghost use Rattle.qir_cli.specs.Commands.{IsLimited};
-ghost use Rattle.qir_cli.specs.Headline.{KeepsBy};
+ghost use Rattle.qir_cli.specs.code.Stops.{IsReplyOf, Meets};
 ghost use Rattle.qir_cli.specs.Replies as spec;
 ghost use Rattle.qir_cli.specs.Stages.{Is};
 
-use crate::admitted::{Admitted, admit_module};
-use crate::command::Command;
-use crate::lowering::lower_module;
-use crate::refusal::{Fault, Refusal, Stop};
+use crate::admitted::Admitted;
+use crate::refusal::{Refusal, Stop};
 use crate::status::Status;
 use check_command::{Profile, check};
 use ir_module::Module;
@@ -55,49 +49,19 @@ impl Reply {
     }
 }
 
-/// The reply of a command to a text of at most 4,194,304 bytes.
-pub(crate) fn reply_to(alloc: Global, command: Command, text: &[u8]) -> Result<Reply, Memory>
-    requires short { length text.now ≤ spec.limit }
-    requires limited { IsLimited command }
-    ensures replies { IfOk result (λ reply. spec.Replies command text.now reply) }
-    ensures kept { IfOk result (KeepsWell command text.now) }
+/// The reply of what a command came to, where there was memory for it.
+pub(crate) fn reply_of(alloc: Global, end: Result<Reply, Stop>) -> Result<Reply, Memory>
+    ensures { IfOk result (IsReplyOf end) }
 {
-    match run(alloc, command, text) {
+    match end {
         Ok(reply) => Ok(reply),
         Err(Stop::Refused(why)) => Reply::refused(alloc, &why),
         Err(Stop::Memory) => Err(Memory),
     }
 }
 
-/// What the command comes to.
-fn run(alloc: Global, command: Command, text: &[u8]) -> Result<Reply, Stop>
-    requires short { length text.now ≤ spec.limit }
-    requires limited { IsLimited command }
-    ensures meets { Meets (spec.ComesTo command text.now) result }
-    ensures kept { IfOk result (λ reply. KeepsBy command text.now reply.text) }
-{
-    let parsed = ir_reader::read(alloc, text)?;
-    let admitted = admit_module(alloc, parsed)?;
-    does(alloc, command, &admitted)
-}
-
-/// What the command does with a module that was admitted.
-fn does(alloc: Global, command: Command, a: &Admitted) -> Result<Reply, Stop>
-    requires limited { IsLimited command }
-    requires parts { ArePlaces a.now.checked.tree a.now.places }
-    requires printable { IsPrintable a.now.checked.tree }
-    ensures meets { Meets (spec.DoesAdmitted command (parsed_of a.now)) result }
-    ensures kept { IfOk result (λ reply. (bytes : List ℕ) → Spells a.now.checked.tree bytes → KeepsBy command bytes reply.text) }
-{
-    match command {
-        Command::Print => print_module(alloc, a.checked.module()),
-        Command::Check { profile } => check_module(alloc, a, profile),
-        Command::Lower { target, budget } => lower_module(alloc, a, target, budget),
-    }
-}
-
 /// The canonical text of a module.
-fn print_module(alloc: Global, m: &Module) -> Result<Reply, Stop>
+pub(crate) fn print_module(alloc: Global, m: &Module) -> Result<Reply, Stop>
     ensures { Meets (Is (Gives (spec.printed m.now))) result }
 {
     Ok(Reply {
@@ -107,17 +71,10 @@ fn print_module(alloc: Global, m: &Module) -> Result<Reply, Stop>
 }
 
 /// What a profile says of a module.
-fn check_module(alloc: Global, a: &Admitted, profile: Profile) -> Result<Reply, Stop>
+pub(crate) fn check_module(alloc: Global, a: &Admitted, profile: Profile) -> Result<Reply, Stop>
     requires { ArePlaces a.now.checked.tree a.now.places }
     ensures { Meets (Checks profile (parsed_of a.now)) result }
 {
     let report = check(alloc, &a.checked, &a.places, profile)?;
     Ok(Reply::reported(report))
-}
-
-/// The reply to a longer text.
-pub(crate) fn too_long(alloc: Global) -> Result<Reply, Memory>
-    ensures { IfOk result (λ reply. reply ≡ spec.too_long) }
-{
-    Reply::refused(alloc, &Fault::TooLong.at_start())
 }

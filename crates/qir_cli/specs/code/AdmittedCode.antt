@@ -1,5 +1,5 @@
 -- Admission as the code sees it.
-use Rattle.std.specs.Prelude.{IsSome, Result, Ok, Err, List}
+use Rattle.std.specs.Prelude.{ℕ, IsSome, Result, Ok, Err, List}
 use Rattle.admission.specs.declared.stop.AdmitStop.{AdmitStop}
 use Rattle.admission.specs.declared.stop.AdmitStop.TheVariants as admit
 use Rattle.ir_module.specs.declared.places.Place.{Place}
@@ -7,11 +7,14 @@ use Rattle.ir_module.specs.declared.places.Spot.{Spot}
 use Rattle.ir_module.specs.declared.tree.Module.{Module}
 use Rattle.ir_module.specs.Places.{place_of}
 use Rattle.ir_reader.specs.declared.parsed.Parsed.{Parsed}
-use Rattle.qir_cli.specs.Admission.{or_start}
+use Rattle.qir_cli.specs.Admission.{Admits, or_start}
 use Rattle.qir_cli.specs.declared.admitted.Admitted.{Admitted}
 use Rattle.qir_cli.specs.declared.refusal.Fault.TheVariants as fault
+use Rattle.qir_cli.specs.declared.refusal.Refusal.{Refusal}
 use Rattle.qir_cli.specs.declared.refusal.Stop.{Stop}
 use Rattle.qir_cli.specs.declared.refusal.Stop.TheVariants as stop
+use Rattle.qir_cli.specs.Reading.{Reads}
+use Rattle.qir_cli.specs.Stages.{Then}
 
 -- an admitted module as the specification sees it
 abbrev pub parsed_as : Module → List (Spot × Place) → Parsed
@@ -23,6 +26,10 @@ parsed_of a = parsed_as a.checked.tree a.places
 abbrev pub given_of : Result Admitted Stop → Result Parsed Stop
 given_of (Ok a) = Ok (parsed_of a)
 given_of (Err why) = Err why
+
+-- the first two stages of a text within the limit
+abbrev pub AdmitsText : List ℕ → Result Parsed Refusal → Type 0
+AdmitsText text = Then (Reads text) Admits
 
 -- the fault has its place among these
 abbrev pub IsPlaced : List (Spot × Place) → AdmitStop → Type 0

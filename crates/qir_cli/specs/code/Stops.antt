@@ -1,9 +1,12 @@
 -- How the code stops and sends what it has.
-use Rattle.std.specs.Prelude.{◌≡◌, ℕ, ◌<◌, List, length, take, Option, Result, Ok, Err, ⊤}
+use Rattle.std.specs.Prelude.{◌≡◌, ℕ, ◌<◌, Bool, List, length, take, Option, Some, Result, Ok, Err, ⊤}
+use Rattle.ir_reader.specs.declared.parsed.Parsed.{Parsed}
 use Rattle.ir_reader.specs.declared.parsed.ReadStop.{ReadStop}
 use Rattle.ir_reader.specs.declared.parsed.ReadStop.TheVariants as read
+use Rattle.ir_reader.specs.Spelling.{Spells}
 use Rattle.ir_values.specs.Counts.{Rose}
-use Rattle.ir_values.specs.declared.memory.Memory.{Memory as NoMemory}
+use Rattle.output_lines.specs.declared.line.ShotStop.{ShotStop}
+use Rattle.output_lines.specs.declared.line.ShotStop.TheVariants as shot
 use Rattle.qir_cli.specs.declared.command.Command.{Command}
 use Rattle.qir_cli.specs.declared.refusal.Fault.TheVariants.{Read}
 use Rattle.qir_cli.specs.declared.refusal.Refusal.{Refusal}
@@ -13,7 +16,11 @@ use Rattle.qir_cli.specs.declared.reply.Reply.{Reply}
 use Rattle.qir_cli.specs.declared.status.Status.{Status}
 use Rattle.qir_cli.specs.declared.status.Status.TheVariants.{Done, WriteFault, Memory}
 use Rattle.qir_cli.specs.Headline.{KeepsBy}
+use Rattle.qir_cli.specs.Outcomes.{WritesAtOnce}
+use Rattle.qir_cli.specs.Replies.{DoesAdmitted, IsReplyTo, Replies, refused}
+use Rattle.qir_cli.specs.Running.{ended}
 use Rattle.qir_ports.specs.Known.{Takes}
+use Rattle.run_commands.specs.Shots.{AreWholeLines}
 
 abbrev pub stop_of : ReadStop → Stop
 stop_of (read.Refused code place) = stop.Refused (record { fault = Read code; place = place })
@@ -29,12 +36,38 @@ Meets ComesTo (Err stop.Memory) = ⊤
 abbrev pub KeepsWell : Command → List ℕ → Reply → Type 0
 KeepsWell command bytes reply = reply.status ≡ Done → KeepsBy command bytes reply.text
 
--- What becomes of a reply: it is written whole, or its beginning is, where a write failed. Without a reply nothing is written.
-pub data Writes (reply : Reply) (taken taken' : Option (List ℕ)) (faults faults' : ℕ) : Status → Type 0 where
-  whole : Takes taken reply.text taken' → Writes reply taken taken' faults faults' reply.status
-  in_part : {count : ℕ} → count < length reply.text → Takes taken (take count reply.text) taken' → Rose faults faults'
-      → Writes reply taken taken' faults faults' WriteFault
+-- the reply of what a command came to in code
+abbrev pub IsReplyOf : Result Reply Stop → Reply → Type 0
+IsReplyOf (Ok reply) r = r ≡ reply
+IsReplyOf (Err (stop.Refused why)) r = r ≡ refused why
+IsReplyOf (Err stop.Memory) r = ⊥
 
-abbrev pub Sends : Result Reply NoMemory → (taken taken' : Option (List ℕ)) (faults faults' : ℕ) → Type 0 → Status → Type 0
-Sends (Ok reply) taken taken' faults faults' unchanged s = Writes reply taken taken' faults faults' s
-Sends (Err e) taken taken' faults faults' unchanged s = unchanged × (s ≡ Memory)
+-- the command writes line by line
+abbrev pub ByLines : Command → Type 0
+ByLines command = WritesAtOnce (Some command) → ⊥
+
+-- What becomes of a reply with P at a sink: it is written whole; or its beginning is, where a write failed; or there is no memory, and
+-- nothing is written, or by a command that writes line by line its first lines are, each whole.
+pub data Becomes {K : Type 0} (Lines : Type 0) (P : Reply → Type 0) (taken : K → Option (List ℕ)) (faults : K → ℕ) (k k' : K)
+    : Status → Type 0 where
+  whole : (reply : Reply) → P reply → Takes (taken k) reply.text (taken k') → Becomes Lines P taken faults k k' reply.status
+  in_part : (reply : Reply) → P reply → (count : ℕ) → count < length reply.text → Takes (taken k) (take count reply.text) (taken k')
+      → Rose (faults k) (faults k') → Becomes Lines P taken faults k k' WriteFault
+  in_lines : Lines → (reply : Reply) → P reply → (count : ℕ) → AreWholeLines (take count reply.text)
+      → Takes (taken k) (take count reply.text) (taken k') → Becomes Lines P taken faults k k' Memory
+  nothing : k' ≡ k → Becomes Lines P taken faults k k' Memory
+
+-- the reply of a command to these bytes, and what it keeps
+abbrev pub RepliesWell : Command → List ℕ → Reply → Type 0
+RepliesWell command bytes reply = Replies command bytes reply × KeepsWell command bytes reply
+
+-- its reply to a module that was admitted, and what it keeps of all bytes that spell it
+abbrev pub DoesWell : Command → Parsed → Reply → Type 0
+DoesWell command parsed reply =
+    IsReplyTo (DoesAdmitted command parsed) reply × ((bytes : List ℕ) → Spells parsed.module bytes → KeepsWell command bytes reply)
+
+-- the status of a command that told its shots
+abbrev pub told_status : Result Bool ShotStop → Status
+told_status (Ok all) = ended all
+told_status (Err shot.Write) = WriteFault
+told_status (Err shot.Memory) = Memory

@@ -16,6 +16,8 @@ mod print;
 #[cfg(test)]
 mod refused_lowerings;
 #[cfg(test)]
+mod runs;
+#[cfg(test)]
 mod texts;
 #[cfg(test)]
 mod words;

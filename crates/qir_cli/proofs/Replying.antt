@@ -36,7 +36,7 @@ use Rattle.qir_cli.specs.Headline.{KeepsBy}
 use Rattle.qir_cli.specs.Laws.{HasOneText, RepliesAreOne, RepliesExist}
 use Rattle.qir_cli.specs.Reading.{Reads}
 use Rattle.qir_cli.specs.Refusals.{at_start}
-use Rattle.qir_cli.specs.Replies.{ComesTo, Does, DoesAdmitted, DoesText, limit, refused, Replies, reply_of, within_limit}
+use Rattle.qir_cli.specs.Replies.{ComesTo, Does, DoesAdmitted, DoesText, limit, refused, reply_of, within_limit}
 use Rattle.qir_cli.specs.Stages.{Is, Then, refuses, leads_on, AtMostOne, AtLeastOne}
 use Rattle.qir_cli.proofs.Admitting.{admits-one, admits-some}
 use Rattle.qir_cli.proofs.Checked.{checks-one, checks-some}

@@ -1,8 +1,7 @@
 -- The replies of `run` and `trace`: there is one, just one, it has a status of replies, and it is told line by line.
-use Rattle.std.proofs.Common.{◌≡◌, ◌∙◌, ℕ, Bool, true, false, List, [], ◌∷◌, length, take, flat_map, refl, ap, sym, subst, if◌then◌else◌}
+use Rattle.std.proofs.Common.{◌≡◌, ◌∙◌, ℕ, Bool, true, false, List, [], ◌∷◌, length, take, flat_map, refl, ap, sym, subst}
 use Rattle.std.specs.Prelude.{Option, Result, Ok, Err, IfOk}
 use Rattle.admission.specs.Admitted.{greatest_required}
-use Rattle.ir_module.specs.declared.tree.Module.{Module}
 use Rattle.ir_module.specs.Numbered.{Numbered}
 use Rattle.ir_reader.specs.declared.parsed.Parsed.{Parsed}
 use Rattle.output_lines.specs.declared.last.Schema.{Schema}
@@ -19,7 +18,6 @@ use Rattle.qir_cli.specs.code.Stops.{Becomes, whole, in_part, in_lines, DoesWell
 use Rattle.qir_cli.specs.declared.command.Command.TheVariants.{Run, Trace}
 use Rattle.qir_cli.specs.declared.refusal.Refusal.{Refusal}
 use Rattle.qir_cli.specs.declared.reply.Reply.{Reply}
-use Rattle.qir_cli.specs.declared.status.Status.TheVariants.{Done, Stopped}
 use Rattle.qir_cli.specs.Outcomes.{IsAnswered}
 use Rattle.qir_cli.specs.Replies.{reply_of}
 use Rattle.qir_cli.specs.Running.{RunsShots, TracesShot, ended}

@@ -1,7 +1,6 @@
 use Rattle.std.proofs.Common.{sym, subst}
 use Rattle.std.specs.Prelude.{Err}
 use Rattle.std.proofs.lemmas.Result.{err_from_is_err_and}
-use Rattle.ir_reader.specs.declared.parsed.Parsed.{Parsed}
 use Rattle.qir_cli.specs.Admission.{Admits}
 use Rattle.qir_cli.specs.code.AdmittedCode.{AdmitsText, given_of}
 use Rattle.qir_cli.specs.code.Stops.{Meets, stop_of}

@@ -1,6 +1,5 @@
 use Rattle.qir_cli.specs.code.AdmittedCode.{parsed_of}
 use Rattle.qir_cli.specs.code.Stops.{ByLines, DoesWell, IsReplyOf, RepliesWell}
-use Rattle.std.proofs.Common.{subst}
 use Rattle.std.specs.Prelude.{Err}
 use Rattle.qir_cli.proofs.Becoming.{becomes-map}
 use Rattle.qir_cli.proofs.Replying.{does-replies, stopped-replies}

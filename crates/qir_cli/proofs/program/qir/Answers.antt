@@ -110,8 +110,8 @@ returns-in-Err-TooLong-clause-bad_words g c =
     let long = c.in-Err-TooLong.ensures.too_long (ap Err c.in-Err-TooLong.field-0-is) in
     let input = long_input left long.more in
     let becomes = becomes-map ⊥ (ByLines c.in-Some.command) (IsReplyOf (Err (stop.Refused c.at_start.result))) (RepliesWell c.in-Some.command input.0)
-        g.K.Sink.taken g.K.Sink.faults c.args.out.now c.send.new.out c.send.result (λ l. absurd l)
-        (λ r e. too-long-replies c.in-Some.command input.0 input.1 r (e ∙ ap refused c.at_start.ensures)) c.send.ensures in
+    g.K.Sink.taken g.K.Sink.faults c.args.out.now c.send.new.out c.send.result (λ l. absurd l)
+    (λ r e. too-long-replies c.in-Some.command input.0 input.1 r (e ∙ ap refused c.at_start.ensures)) c.send.ensures in
     let told = sent words c.in-Some.command is left input.0 input.2 g.K.Sink.taken g.K.Sink.faults c.args.out.now c.send.new.out c.send.result becomes in
     ((λ e. absurd (told.no_bad_words e)), (λ none. cc))
 
@@ -123,8 +123,8 @@ returns-in-Err-TooLong-clause-unread g c =
     let long = c.in-Err-TooLong.ensures.too_long (ap Err c.in-Err-TooLong.field-0-is) in
     let input = long_input left long.more in
     let becomes = becomes-map ⊥ (ByLines c.in-Some.command) (IsReplyOf (Err (stop.Refused c.at_start.result))) (RepliesWell c.in-Some.command input.0)
-        g.K.Sink.taken g.K.Sink.faults c.args.out.now c.send.new.out c.send.result (λ l. absurd l)
-        (λ r e. too-long-replies c.in-Some.command input.0 input.1 r (e ∙ ap refused c.at_start.ensures)) c.send.ensures in
+    g.K.Sink.taken g.K.Sink.faults c.args.out.now c.send.new.out c.send.result (λ l. absurd l)
+    (λ r e. too-long-replies c.in-Some.command input.0 input.1 r (e ∙ ap refused c.at_start.ensures)) c.send.ensures in
     let told = sent words c.in-Some.command is left input.0 input.2 g.K.Sink.taken g.K.Sink.faults c.args.out.now c.send.new.out c.send.result becomes in
     λ e. absurd (told.no_bad_words e)
 
@@ -136,8 +136,8 @@ returns-in-Err-TooLong-clause-unwritten g c =
     let long = c.in-Err-TooLong.ensures.too_long (ap Err c.in-Err-TooLong.field-0-is) in
     let input = long_input left long.more in
     let becomes = becomes-map ⊥ (ByLines c.in-Some.command) (IsReplyOf (Err (stop.Refused c.at_start.result))) (RepliesWell c.in-Some.command input.0)
-        g.K.Sink.taken g.K.Sink.faults c.args.out.now c.send.new.out c.send.result (λ l. absurd l)
-        (λ r e. too-long-replies c.in-Some.command input.0 input.1 r (e ∙ ap refused c.at_start.ensures)) c.send.ensures in
+    g.K.Sink.taken g.K.Sink.faults c.args.out.now c.send.new.out c.send.result (λ l. absurd l)
+    (λ r e. too-long-replies c.in-Some.command input.0 input.1 r (e ∙ ap refused c.at_start.ensures)) c.send.ensures in
     let told = sent words c.in-Some.command is left input.0 input.2 g.K.Sink.taken g.K.Sink.faults c.args.out.now c.send.new.out c.send.result becomes in
     told.unwritten
 
@@ -149,8 +149,8 @@ returns-in-Err-TooLong-clause-read_fault g c =
     let long = c.in-Err-TooLong.ensures.too_long (ap Err c.in-Err-TooLong.field-0-is) in
     let input = long_input left long.more in
     let becomes = becomes-map ⊥ (ByLines c.in-Some.command) (IsReplyOf (Err (stop.Refused c.at_start.result))) (RepliesWell c.in-Some.command input.0)
-        g.K.Sink.taken g.K.Sink.faults c.args.out.now c.send.new.out c.send.result (λ l. absurd l)
-        (λ r e. too-long-replies c.in-Some.command input.0 input.1 r (e ∙ ap refused c.at_start.ensures)) c.send.ensures in
+    g.K.Sink.taken g.K.Sink.faults c.args.out.now c.send.new.out c.send.result (λ l. absurd l)
+    (λ r e. too-long-replies c.in-Some.command input.0 input.1 r (e ∙ ap refused c.at_start.ensures)) c.send.ensures in
     let told = sent words c.in-Some.command is left input.0 input.2 g.K.Sink.taken g.K.Sink.faults c.args.out.now c.send.new.out c.send.result becomes in
     λ e. absurd (told.no_read_fault e)
 
@@ -162,8 +162,8 @@ returns-in-Err-TooLong-clause-write_fault g c =
     let long = c.in-Err-TooLong.ensures.too_long (ap Err c.in-Err-TooLong.field-0-is) in
     let input = long_input left long.more in
     let becomes = becomes-map ⊥ (ByLines c.in-Some.command) (IsReplyOf (Err (stop.Refused c.at_start.result))) (RepliesWell c.in-Some.command input.0)
-        g.K.Sink.taken g.K.Sink.faults c.args.out.now c.send.new.out c.send.result (λ l. absurd l)
-        (λ r e. too-long-replies c.in-Some.command input.0 input.1 r (e ∙ ap refused c.at_start.ensures)) c.send.ensures in
+    g.K.Sink.taken g.K.Sink.faults c.args.out.now c.send.new.out c.send.result (λ l. absurd l)
+    (λ r e. too-long-replies c.in-Some.command input.0 input.1 r (e ∙ ap refused c.at_start.ensures)) c.send.ensures in
     let told = sent words c.in-Some.command is left input.0 input.2 g.K.Sink.taken g.K.Sink.faults c.args.out.now c.send.new.out c.send.result becomes in
     told.counted
 
@@ -175,8 +175,8 @@ returns-in-Err-TooLong-clause-answered g c =
     let long = c.in-Err-TooLong.ensures.too_long (ap Err c.in-Err-TooLong.field-0-is) in
     let input = long_input left long.more in
     let becomes = becomes-map ⊥ (ByLines c.in-Some.command) (IsReplyOf (Err (stop.Refused c.at_start.result))) (RepliesWell c.in-Some.command input.0)
-        g.K.Sink.taken g.K.Sink.faults c.args.out.now c.send.new.out c.send.result (λ l. absurd l)
-        (λ r e. too-long-replies c.in-Some.command input.0 input.1 r (e ∙ ap refused c.at_start.ensures)) c.send.ensures in
+    g.K.Sink.taken g.K.Sink.faults c.args.out.now c.send.new.out c.send.result (λ l. absurd l)
+    (λ r e. too-long-replies c.in-Some.command input.0 input.1 r (e ∙ ap refused c.at_start.ensures)) c.send.ensures in
     let told = sent words c.in-Some.command is left input.0 input.2 g.K.Sink.taken g.K.Sink.faults c.args.out.now c.send.new.out c.send.result becomes in
     told.answered
 
@@ -188,8 +188,8 @@ returns-in-Err-TooLong-clause-partly_answered g c =
     let long = c.in-Err-TooLong.ensures.too_long (ap Err c.in-Err-TooLong.field-0-is) in
     let input = long_input left long.more in
     let becomes = becomes-map ⊥ (ByLines c.in-Some.command) (IsReplyOf (Err (stop.Refused c.at_start.result))) (RepliesWell c.in-Some.command input.0)
-        g.K.Sink.taken g.K.Sink.faults c.args.out.now c.send.new.out c.send.result (λ l. absurd l)
-        (λ r e. too-long-replies c.in-Some.command input.0 input.1 r (e ∙ ap refused c.at_start.ensures)) c.send.ensures in
+    g.K.Sink.taken g.K.Sink.faults c.args.out.now c.send.new.out c.send.result (λ l. absurd l)
+    (λ r e. too-long-replies c.in-Some.command input.0 input.1 r (e ∙ ap refused c.at_start.ensures)) c.send.ensures in
     let told = sent words c.in-Some.command is left input.0 input.2 g.K.Sink.taken g.K.Sink.faults c.args.out.now c.send.new.out c.send.result becomes in
     told.partly
 
@@ -201,8 +201,8 @@ returns-in-Err-TooLong-clause-whole_lines g c =
     let long = c.in-Err-TooLong.ensures.too_long (ap Err c.in-Err-TooLong.field-0-is) in
     let input = long_input left long.more in
     let becomes = becomes-map ⊥ (ByLines c.in-Some.command) (IsReplyOf (Err (stop.Refused c.at_start.result))) (RepliesWell c.in-Some.command input.0)
-        g.K.Sink.taken g.K.Sink.faults c.args.out.now c.send.new.out c.send.result (λ l. absurd l)
-        (λ r e. too-long-replies c.in-Some.command input.0 input.1 r (e ∙ ap refused c.at_start.ensures)) c.send.ensures in
+    g.K.Sink.taken g.K.Sink.faults c.args.out.now c.send.new.out c.send.result (λ l. absurd l)
+    (λ r e. too-long-replies c.in-Some.command input.0 input.1 r (e ∙ ap refused c.at_start.ensures)) c.send.ensures in
     let told = sent words c.in-Some.command is left input.0 input.2 g.K.Sink.taken g.K.Sink.faults c.args.out.now c.send.new.out c.send.result becomes in
     told.lines
 
@@ -214,8 +214,8 @@ returns-in-Err-TooLong-clause-kept g c =
     let long = c.in-Err-TooLong.ensures.too_long (ap Err c.in-Err-TooLong.field-0-is) in
     let input = long_input left long.more in
     let becomes = becomes-map ⊥ (ByLines c.in-Some.command) (IsReplyOf (Err (stop.Refused c.at_start.result))) (RepliesWell c.in-Some.command input.0)
-        g.K.Sink.taken g.K.Sink.faults c.args.out.now c.send.new.out c.send.result (λ l. absurd l)
-        (λ r e. too-long-replies c.in-Some.command input.0 input.1 r (e ∙ ap refused c.at_start.ensures)) c.send.ensures in
+    g.K.Sink.taken g.K.Sink.faults c.args.out.now c.send.new.out c.send.result (λ l. absurd l)
+    (λ r e. too-long-replies c.in-Some.command input.0 input.1 r (e ∙ ap refused c.at_start.ensures)) c.send.ensures in
     let told = sent words c.in-Some.command is left input.0 input.2 g.K.Sink.taken g.K.Sink.faults c.args.out.now c.send.new.out c.send.result becomes in
     told.kept
 

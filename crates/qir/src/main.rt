@@ -7,6 +7,7 @@ ghost use Rattle.std.specs.Process.{exit_status};
 ghost use Rattle.std.specs.Vec.Iter.{into_iter_items};
 ghost use Rattle.ir_values.specs.Counts.{Rose};
 ghost use Rattle.qir_cli.specs.Commands.{command_of, texts_of};
+ghost use Rattle.qir_cli.specs.Headline.{WritesKept};
 ghost use Rattle.qir_cli.specs.Outcomes.{Answered, PartlyAnswered, IsAnswered};
 ghost use Rattle.qir_cli.specs.Statuses.{number_of};
 
@@ -39,6 +40,9 @@ fn run<S: Source, K: Sink>(
         (K.taken out.old) (K.taken out.new) result) }
     ensures partly_answered { IfOk args (λ args. result ≡ Status.WriteFault
         → PartlyAnswered (texts_of (drop 1 (into_iter_items args))) (S.left input.old)
+        (K.taken out.old) (K.taken out.new)) }
+    ensures kept { IfOk args (λ args. result ≡ Status.Done
+        → WritesKept (texts_of (drop 1 (into_iter_items args))) (S.left input.old)
         (K.taken out.old) (K.taken out.new)) }
     ensures read_fault { result ≡ Status.ReadFault → Rose (S.faults input.old) (S.faults input.new) }
     ensures write_fault { result ≡ Status.WriteFault → Rose (K.faults out.old) (K.faults out.new) }

@@ -1,7 +1,7 @@
 //! `print`, and what admission says of modules.
 use crate::forms::{Lowered, Program};
-use crate::given::{Outcome, answer, blanks};
-use crate::texts::{HIGH_QUBIT, ONE_ALLOCATION, READ_BEFORE};
+use crate::given::{Outcome, answer, blanks, bytes};
+use crate::texts::{BELL, HIGH_QUBIT, ONE_ALLOCATION, ONE_BLOCK, ONE_BLOCK_PRINTED, READ_BEFORE};
 use ir_values::Bytes;
 use qir_cli::Status;
 use std::alloc::Global;
@@ -46,6 +46,40 @@ attributes #0 = { \"entry_point\" }
     let done = print(rt.alloc(), text)?;
     assert_eq!(rt; done.status, Status::Done);
     assert_eq!(rt; done.written.as_slice(), expected);
+    Ok(())
+}
+
+/// A canonical text is printed as it is.
+#[test]
+fn canonical_text_stays(rt: HostRuntime) -> Result<(), Fail> {
+    let rows: [(&[u8], &[u8]); 3] = [
+        (BELL, BELL),
+        (ONE_BLOCK, ONE_BLOCK_PRINTED),
+        (ONE_BLOCK_PRINTED, ONE_BLOCK_PRINTED),
+    ];
+    for (text, expected) in rows {
+        let done = print(rt.alloc(), text)?;
+        assert_eq!(rt; done.status, Status::Done);
+        assert_eq!(rt; done.written.as_slice(), expected);
+    }
+    Ok(())
+}
+
+#[test]
+fn texts_that_spell_no_module_are_refused(rt: HostRuntime) -> Result<(), Fail> {
+    let alloc = rt.alloc();
+    let rows: [(Bytes, &[u8]); 2] = [
+        (
+            blanks(alloc, 4_194_305)?,
+            b"REFUSED\tinput\t1\t1\t1\tTooLong\n",
+        ),
+        (bytes(alloc, b"%Qubi")?, b"REFUSED\tread\t5\t1\t6\tSyntax\n"),
+    ];
+    for (text, line) in rows {
+        let refused = print(alloc, text.as_slice())?;
+        assert_eq!(rt; refused.status, Status::Refused);
+        assert_eq!(rt; refused.written.as_slice(), line);
+    }
     Ok(())
 }
 

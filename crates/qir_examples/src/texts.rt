@@ -80,6 +80,32 @@ attributes #1 = { \"irreversible\" }
 !3 = !{i32 1, !\"dynamic_result_management\", i1 false}
 ";
 
+/// The same program, canonical.
+pub const ONE_BLOCK_PRINTED: &[u8] = b"%Qubit = type opaque
+%Result = type opaque
+
+define void @main() #0 {
+entry:
+  call void @__quantum__qis__h__body(%Qubit* null)
+  call void @__quantum__qis__mz__body(%Qubit* null, %Result* null)
+  ret void
+}
+
+declare void @__quantum__qis__h__body(%Qubit*)
+
+declare void @__quantum__qis__mz__body(%Qubit*, %Result*) #1
+
+attributes #0 = { \"entry_point\" \"output_labeling_schema\" \"qir_profiles\"=\"base_profile\" \"required_num_qubits\"=\"1\" \"required_num_results\"=\"1\" }
+attributes #1 = { \"irreversible\" }
+
+!llvm.module.flags = !{!0, !1, !2, !3}
+
+!0 = !{i32 1, !\"qir_major_version\", i32 1}
+!1 = !{i32 7, !\"qir_minor_version\", i32 0}
+!2 = !{i32 1, !\"dynamic_qubit_management\", i1 false}
+!3 = !{i32 1, !\"dynamic_result_management\", i1 false}
+";
+
 /// A function that is called three times by a counting loop.
 pub const COUNTED_TURNS: &[u8] = b"define i64 @main() #0 {
 entry:

@@ -73,15 +73,7 @@ fn push_lines(text: &mut Bytes, mut lines: &[&[u8]]) -> Result<(), Memory>
 }
 
 /// Makes the text from its lines.
-#[tactic(
-    auto,
-    unfolding(
-        crate::specs::Text::generated,
-        crate::specs::Text::before_turns,
-        crate::specs::Text::after_turns,
-        crate::specs::Text::declarations
-    )
-)]
+#[tactic(auto, unfolding(crate::specs::Text::generated, crate::specs::Text::before_turns, crate::specs::Text::after_turns, crate::specs::Text::declarations))]
 fn from_lines(alloc: Global, turns: u32) -> Result<Bytes, Memory>
     ensures { IfOk result (λ text. text ≡ spec.generated turns) }
 {

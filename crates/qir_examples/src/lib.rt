@@ -6,6 +6,8 @@ mod check;
 #[cfg(test)]
 mod expected;
 #[cfg(test)]
+mod faults;
+#[cfg(test)]
 mod forms;
 #[cfg(test)]
 mod given;

@@ -86,6 +86,36 @@ fn a_bell_pair_has_its_records(rt: HostRuntime) -> Result<(), Fail> {
     Ok(())
 }
 
+/// A shot that is cut has the records that its steps came to.
+#[test]
+fn a_shot_is_cut_at_its_bound(rt: HostRuntime) -> Result<(), Fail> {
+    let rows: [(&str, &[u8]); 11] = [
+        ("run script labeled 1 11", b""),
+        ("run script labeled 2 11", b""),
+        ("run script labeled 3 11", b""),
+        ("run script labeled 4 11", b""),
+        ("run script labeled 5 11", b""),
+        ("run script labeled 6 11", b""),
+        ("run script labeled 7 11", b""),
+        ("run script labeled 8 11", b""),
+        ("run script labeled 9 11", b"OUTPUT\tTUPLE\t2\n"),
+        (
+            "run script labeled 10 11",
+            b"OUTPUT\tTUPLE\t2\nOUTPUT\tRESULT\t1\tr0\n",
+        ),
+        ("run script labeled 11 11", BELL_RECORDS),
+    ];
+    for (line, records) in rows {
+        let told = answer(rt.alloc(), line, BELL)?;
+        assert_eq!(rt; told.status, Status::Stopped);
+        let mut expected = bytes(rt.alloc(), BELL_HEAD)?;
+        expected.extend_from_slice(records)?;
+        expected.extend_from_slice(b"STOP\tCut\n")?;
+        assert_eq!(rt; told.written.as_slice(), expected.as_slice());
+    }
+    Ok(())
+}
+
 /// The programs, the words, the status, and what is written.
 #[test]
 fn shots_are_told_as_they_end(rt: HostRuntime) -> Result<(), Fail> {

@@ -6,7 +6,8 @@ use Rattle.std.specs.List.{list_all, flat_map}
 use Rattle.std.proofs.Common.{◌≡◌, ℕ, zero, suc, ◌+◌, ◌-◌, ◌^◌, ◌<◌, ◌≤◌, Bool, true, false, cond, Option, None, Some, List, [], ◌∷◌, ◌++◌, length, map, refl, sym, ap, ◌∙◌, subst, arith, append_assoc, pow_mono, pow-suc}
 use Rattle.std.proofs.lemmas.Bool.{and_parts, and_from, cond_both, eqb-true, eq-eqb, ltb-true, lt-ltb, leb-true, false≢true}
 use Rattle.grammar.specs.Grammar.{has, tok}
-use Rattle.ir_text.specs.Forms.{begins, is_digits}
+use Rattle.ir_values.specs.Double.{begins}
+use Rattle.ir_text.specs.Forms.{is_digits}
 use Rattle.ir_text.specs.declared.tok.Tok.TheVariants as sort
 use Rattle.ir_module.specs.Numbered.{are_few}
 use Rattle.ir_module.specs.Printable.{name_fits, are_bytes, value_fits, attr_fits, constant_text_fits, part_fits}

@@ -13,7 +13,8 @@ use Rattle.ir_values.specs.Width.{bits_of}
 use Rattle.ir_values.specs.declared.int.Width.{Width}
 use Rattle.ir_values.specs.declared.int.Width.TheVariants.{W1, W8, W16, W32, W64}
 use Rattle.ir_values.specs.declared.name.Name.{Name}
-use Rattle.ir_text.specs.Forms.{is_digits, begins, after_minus}
+use Rattle.ir_values.specs.Double.{begins}
+use Rattle.ir_text.specs.Forms.{is_digits, after_minus}
 use Rattle.ir_text.specs.declared.tok.Tok.{Tok}
 use Rattle.ir_text.specs.declared.tok.Tok.TheVariants as sort
 use Rattle.ir_tokens.specs.Classified.{kind_of, number_of, local_kind}

@@ -3,8 +3,7 @@ use Rattle.std.proofs.Common.{◌≡◌, ℕ, Bool, true, false, List, [], ◌�
 use Rattle.std.specs.Prelude.{not, ◌&&◌, map, flat_map}
 use Rattle.std.specs.List.{list_all}
 use Rattle.std.proofs.lemmas.Bool.{and_parts, and_from}
-use Rattle.ir_values.specs.Double.{is_nil}
-use Rattle.ir_text.specs.Forms.{begins}
+use Rattle.ir_values.specs.Double.{begins, is_nil}
 use Rattle.ir_text.specs.Tokens.{is_blank}
 use Rattle.ir_text.specs.declared.tok.Tok.{Tok}
 use Rattle.ir_parts.specs.Parts.{Part, gap, token}

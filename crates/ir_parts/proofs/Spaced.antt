@@ -5,8 +5,7 @@ use Rattle.std.specs.List.{list_all}
 use Rattle.std.proofs.lemmas.Bool.{and_parts, and_from, or_left, not-true}
 use Rattle.std.proofs.lemmas.Bool.Decides.{nat_tests}
 use Rattle.std.proofs.lemmas.List.{length-append}
-use Rattle.ir_values.specs.Double.{is_nil}
-use Rattle.ir_text.specs.Forms.{begins}
+use Rattle.ir_values.specs.Double.{begins, is_nil}
 use Rattle.ir_text.specs.code.Scan.{shape}
 use Rattle.ir_text.specs.Tokens.{is_blank, is_gap, is_comment, Heads, TokensFrom, Tokens}
 use Rattle.ir_text.specs.declared.tok.Tok.{Tok}

@@ -4,9 +4,10 @@ use Rattle.std.specs.Prelude.{◌==◌, ◌&&◌, ◌||◌, not, is_none}
 use Rattle.std.specs.Char.{is_ascii_digit}
 use Rattle.std.proofs.lemmas.Bool.{and_parts, or_cases, or_left, or_parts, or_from, not-true, eqb-true, ne_eqb, false≢true, true≢false, cond_both}
 use Rattle.std.proofs.lemmas.Bool.Decides.{nat_tests}
-use Rattle.ir_values.specs.Double.{is_nil, is_double, is_hex_form, is_decimal, is_sixteen_hex, after_digits, after_sign, begins_with_digit, is_fraction}
-use Rattle.ir_text.specs.Forms.{begins, is_only, is_behind, in_word, in_name, in_string, begins_word, begins_name, is_sign, after_minus}
-use Rattle.ir_text.specs.code.Scan.{after, Shape, of_kind, behind_string, behind_digits, behind_name, behind_identifier, behind_metadata, string_or_label, behind_exponent, behind_point, behind_decimal, behind_sixteen, behind_double, double_or_integer, number, unlabelled, label_or, plain, bytes_or_plain, shape}
+use Rattle.ir_values.specs.Double.{begins, after, is_nil, is_double, is_hex_form, is_decimal, is_sixteen_hex, after_digits, after_sign, begins_with_digit, is_fraction}
+use Rattle.ir_values.specs.code.Double.{behind_exponent, behind_point, behind_decimal, behind_sixteen, behind_double}
+use Rattle.ir_text.specs.Forms.{is_only, is_behind, in_word, in_name, in_string, begins_word, begins_name, is_sign, after_minus}
+use Rattle.ir_text.specs.code.Scan.{Shape, of_kind, behind_string, behind_digits, behind_name, behind_identifier, behind_metadata, string_or_label, double_or_integer, number, unlabelled, label_or, plain, bytes_or_plain, shape}
 use Rattle.ir_text.specs.declared.tok.Tok.{Tok}
 use Rattle.ir_text.specs.declared.tok.Tok.TheVariants.{Word, Label, Local, Global, Integer, Double, Str, ByteStr, Group, Metadata, Sign, End}
 use Rattle.ir_text.specs.declared.tok.LexCode.TheVariants.{BadByte}

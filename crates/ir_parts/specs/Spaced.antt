@@ -2,9 +2,9 @@
 use Rattle.std.specs.Prelude.{ℕ, Bool, true, false, not, ◌&&◌, ◌||◌, ◌==◌, is_none, List, [], ◌∷◌}
 use Rattle.std.specs.List.{list_all}
 use Rattle.ir_values.specs.Bytes.{colon, small_c}
-use Rattle.ir_values.specs.Double.{is_nil}
+use Rattle.ir_values.specs.Double.{begins, is_nil}
 use Rattle.ir_text.specs.Faults.{fault_of}
-use Rattle.ir_text.specs.Forms.{begins, is_only, is_sign, in_name, is_word, spells}
+use Rattle.ir_text.specs.Forms.{is_only, is_sign, in_name, is_word, spells}
 use Rattle.ir_text.specs.Tokens.{is_blank}
 use Rattle.ir_text.specs.declared.tok.Tok.{Tok}
 use Rattle.ir_text.specs.declared.tok.Tok.TheVariants.{Word, Label, ByteStr, Sign}

@@ -1,15 +1,16 @@
 -- Where no label can end.
 use Rattle.std.proofs.Common.{◌≡◌, ℕ, zero, suc, ◌+◌, ◌-◌, ◌≤◌, ◌<◌, Bool, true, false, cond, List, [], ◌∷◌, length, drop, refl, sym, ap, ◌∙◌, arith}
 use Rattle.std.specs.Prelude.{◌==◌, not, Result, Ok, Err, IfOk}
+use Rattle.ir_values.specs.Double.{begins, after}
 use Rattle.ir_text.specs.declared.tok.Tok.{Tok}
 use Rattle.ir_text.specs.declared.tok.Span.{Span}
 use Rattle.ir_text.specs.declared.tok.LexError.{LexError}
 use Rattle.std.proofs.lemmas.List.{length-drop, drop-drop}
-use Rattle.ir_text.specs.Forms.{begins, in_name}
+use Rattle.ir_text.specs.Forms.{in_name}
 use Rattle.ir_text.specs.code.Next.{after_gap}
 use Rattle.ir_text.specs.code.LabelFree.{ends_label, behind_label_free, IsLabelFree}
 use Rattle.ir_text.specs.Tokens.{is_blank}
-use Rattle.ir_text.specs.code.Scan.{Shape, after, label_or}
+use Rattle.ir_text.specs.code.Scan.{Shape, label_or}
 use Rattle.ir_text.proofs.Lengths.{below, length-after, length-after_gap}
 
 -- where no ':' comes, there's no label

@@ -16,4 +16,3 @@ pub mod RunForms
 pub mod Runs
 pub mod SameForms
 pub mod Shapes
-pub mod Sixteen

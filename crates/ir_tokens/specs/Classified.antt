@@ -3,7 +3,8 @@ use Rattle.std.specs.Prelude.{ℕ, ◌-◌, Bool, true, false, ◌&&◌, ◌||�
 use Rattle.std.specs.Char.{is_ascii_digit}
 use Rattle.ir_values.specs.Bytes.{digit_zero, minus, equals, comma, star, less, greater}
 use Rattle.ir_values.specs.Bytes.{open_bracket, close_bracket, open_square, close_square, open_brace, close_brace}
-use Rattle.ir_text.specs.Forms.{begins, is_behind, is_digits, after_minus}
+use Rattle.ir_values.specs.Double.{begins}
+use Rattle.ir_text.specs.Forms.{is_behind, is_digits, after_minus}
 use Rattle.ir_text.specs.declared.tok.Tok.{Tok}
 use Rattle.ir_text.specs.declared.tok.Tok.TheVariants as tok
 use Rattle.ir_tokens.specs.Decoded.{behind_first, but_last, between, decoded, name_bytes}

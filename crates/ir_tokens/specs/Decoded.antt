@@ -2,8 +2,8 @@
 use Rattle.std.specs.Prelude.{ℕ, zero, suc, ◌+◌, ◌-◌, ◌*◌, ◌&&◌, ◌==◌, if◌then◌else◌, List, [], ◌∷◌, length, take, drop}
 use Rattle.std.specs.Char.{is_ascii_hexdigit, digit_value}
 use Rattle.ir_values.specs.Bytes.{quote, backslash}
+use Rattle.ir_values.specs.Double.{begins}
 use Rattle.ir_text.specs.Faults.{escape_length}
-use Rattle.ir_text.specs.Forms.{begins}
 
 -- the bytes behind the first
 abbrev pub behind_first : List ℕ → List ℕ

@@ -1,2 +1,3 @@
 -- Companions of the code. Nothing here has to be believed.
 pub mod CallRows
+pub mod Double

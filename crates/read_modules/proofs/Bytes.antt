@@ -6,8 +6,9 @@ use Rattle.std.proofs.lemmas.Bool.{ltb-true, lt-ltb, and_parts, cond_both, agree
 use Rattle.std.proofs.lemmas.List.{length-take, length-drop}
 use Rattle.ir_values.specs.Bytes.{quote, backslash}
 use Rattle.ir_values.specs.declared.name.Name.TheVariants as name
+use Rattle.ir_values.specs.Double.{begins}
 use Rattle.ir_text.specs.Faults.{escape_length}
-use Rattle.ir_text.specs.Forms.{begins, is_digits}
+use Rattle.ir_text.specs.Forms.{is_digits}
 use Rattle.ir_text.specs.code.Next.{next}
 use Rattle.ir_text.specs.declared.tok.Tok.{Tok}
 use Rattle.ir_text.specs.declared.tok.Span.{Span}

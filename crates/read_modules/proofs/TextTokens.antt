@@ -8,8 +8,8 @@ use Rattle.std.proofs.lemmas.List.{drop-drop, length-append, append_assoc, lengt
 use Rattle.std.proofs.lemmas.Bool.{ltb-true, eqb-true, and_parts, or_left, or_right, or_cases, not-true, both_ways, false≢true}
 use Rattle.grammar.specs.Grammar.{has}
 use Rattle.ir_values.specs.Bytes.{digit_zero, minus, equals, comma, star, less, greater, open_bracket, close_bracket, open_square, close_square, open_brace, close_brace}
-use Rattle.ir_values.specs.Double.{is_double}
-use Rattle.ir_text.specs.Forms.{begins, spells}
+use Rattle.ir_values.specs.Double.{begins, is_double}
+use Rattle.ir_text.specs.Forms.{spells}
 use Rattle.ir_text.specs.Tokens.{TokensFrom, Tokens}
 use Rattle.ir_text.specs.declared.tok.Tok.{Tok}
 use Rattle.ir_text.specs.declared.tok.Tok.TheVariants as tok

@@ -1,8 +1,8 @@
 -- Where no label can end: for what goes over a text token by token and reads each byte a few times at most.
 use Rattle.std.specs.Prelude.{◌≡◌, ℕ, ◌≤◌, ◌<◌, Bool, false, ◌==◌, if◌then◌else◌, List, drop}
 use Rattle.ir_values.specs.Bytes.{colon}
-use Rattle.ir_text.specs.Forms.{begins, in_name}
-use Rattle.ir_text.specs.code.Scan.{after}
+use Rattle.ir_values.specs.Double.{begins, after}
+use Rattle.ir_text.specs.Forms.{in_name}
 
 -- a ':' stands behind the bytes of names that come first
 abbrev pub ends_label : List ℕ → Bool

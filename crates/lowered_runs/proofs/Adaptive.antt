@@ -4,8 +4,9 @@ use Rattle.std.specs.Prelude.{⊤, slice_get}
 use Rattle.ir_module.specs.declared.tree.Module.{Module}
 use Rattle.ir_values.specs.declared.int.Width.{Width}
 use Rattle.ir_values.specs.Int.{IntValue}
+use Rattle.qir_meaning.specs.code.Steps.{Whole}
 use Rattle.qir_meaning.specs.State.{State}
-use Rattle.qir_meaning.specs.code.Simulation.{GoesBy, Whole}
+use Rattle.qir_meaning.specs.code.Simulation.{GoesBy}
 use Rattle.kept_items.specs.declared.item.Item.{Item}
 use Rattle.kept_items.specs.declared.item.Item.TheVariants as item
 use Rattle.kept_items.specs.declared.target.Caps.{Caps}

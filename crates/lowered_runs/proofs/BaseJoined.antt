@@ -16,8 +16,8 @@ use Rattle.ir_values.specs.declared.ty.Ty.TheVariants as ty
 use Rattle.ir_values.specs.Int.{IntValue}
 use Rattle.qir_meaning.specs.Runs.{RunEnd, Returned, start}
 use Rattle.qir_meaning.specs.State.{State}
-use Rattle.qir_meaning.specs.code.Simulation.{GoesBy, Off, Whole, tick, whole_start}
-use Rattle.qir_meaning.specs.code.Steps.{Ended, returned}
+use Rattle.qir_meaning.specs.code.Simulation.{GoesBy}
+use Rattle.qir_meaning.specs.code.Steps.{Ended, returned, Off, Whole, tick, whole_start}
 use Rattle.kept_items.specs.declared.item.Choice.{Choice}
 use Rattle.kept_items.specs.declared.item.Choice.TheVariants as choice
 use Rattle.kept_items.specs.declared.item.Code.{Code}

@@ -4,9 +4,9 @@ use Rattle.std.specs.Prelude.{◌==◌, ⊤, if◌then◌else◌, slice_get, sli
 use Rattle.ir_values.specs.declared.int.Width.{Width}
 use Rattle.ir_values.specs.declared.value.Value.TheVariants as value
 use Rattle.ir_values.specs.Int.{IntValue}
+use Rattle.qir_meaning.specs.code.Steps.{On, Whole, tick}
 use Rattle.qir_meaning.specs.Effects.{is_one}
 use Rattle.qir_meaning.specs.State.{State}
-use Rattle.qir_meaning.specs.code.Simulation.{On, Whole, tick}
 use Rattle.kept_items.specs.declared.item.Choice.{Choice}
 use Rattle.kept_items.specs.declared.item.Choice.TheVariants as choice
 use Rattle.kept_items.specs.declared.target.Caps.{Caps}

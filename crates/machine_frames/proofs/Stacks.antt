@@ -10,8 +10,7 @@ use Rattle.machine_frames.specs.declared.frames.Frames.{Frames}
 use Rattle.machine_frames.specs.Frames.{Ended, Leads, paused, stacked, whole}
 use Rattle.qir_meaning.specs.Runs.{bind_result}
 use Rattle.qir_meaning.specs.State.{Env, State, Enter, next}
-use Rattle.qir_meaning.specs.code.Simulation.{On, Off, gives_back, tick_of}
-use Rattle.qir_meaning.specs.code.Steps.{Waiting, returned}
+use Rattle.qir_meaning.specs.code.Steps.{Waiting, returned, On, Off, gives_back, tick_of}
 
 pub stacked-push : (ws : List Paused) (w : Paused) (above : List Waiting) → stacked (ws ++ w ∷ []) above ≡ paused w ∷ stacked ws above
 stacked-push [] w above = refl

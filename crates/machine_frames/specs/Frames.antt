@@ -10,8 +10,7 @@ use Rattle.qir_meaning.specs.declared.end.End.{End}
 use Rattle.qir_meaning.specs.declared.end.End.TheVariants as end
 use Rattle.qir_meaning.specs.Runs.{RunEnd, Returned, Trapped, Asks, Cut}
 use Rattle.qir_meaning.specs.State.{State, Move, next, bind}
-use Rattle.qir_meaning.specs.code.Simulation.{Whole, Tick, On, Off, tick_of}
-use Rattle.qir_meaning.specs.code.Steps.{Waiting, Ended as Over, Jam, returned}
+use Rattle.qir_meaning.specs.code.Steps.{Waiting, Ended as Over, Jam, returned, Whole, Tick, On, Off, tick_of}
 
 -- how a run ends; why an operation has no answer is the machine's
 abbrev pub meant : End → RunEnd

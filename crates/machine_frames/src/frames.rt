@@ -3,9 +3,9 @@ ghost use Rattle.std.specs.Prelude.{◌≡◌, ◌+◌, ◌<◌, ◌^◌, [], If
 ghost use Rattle.machine_frames.specs.declared.flow.Flow.TheVariants as flow;
 ghost use Rattle.machine_frames.specs.Frames as spec;
 ghost use Rattle.machine_frames.specs.Frames.{Leads, Moves, whole};
+ghost use Rattle.qir_meaning.specs.code.Steps.{tick_of, gives_back};
 ghost use Rattle.qir_meaning.specs.Moves.{first_point};
 ghost use Rattle.qir_meaning.specs.State.{State, Enter, Back, frame};
-ghost use Rattle.qir_meaning.specs.code.Simulation.{tick_of, gives_back};
 
 use crate::flow::Flow;
 use crate::values::{Env, Values, bind, bind_given};

@@ -11,8 +11,8 @@ use Rattle.ir_values.specs.Int.{IntValue}
 use Rattle.qir_meaning.specs.Runs.{RunEnd, Returned, end_of}
 use Rattle.qir_meaning.specs.Same.{SameBehaviour}
 use Rattle.qir_meaning.specs.State.{State}
-use Rattle.qir_meaning.specs.code.Simulation.{Alike, EndsBy, Meets, Off, Simulation, Tick, Whole, tick, whole_start}
-use Rattle.qir_meaning.specs.code.Steps.{Ended}
+use Rattle.qir_meaning.specs.code.Simulation.{Alike, EndsBy, Meets, Simulation}
+use Rattle.qir_meaning.specs.code.Steps.{Ended, Off, Tick, Whole, tick, whole_start}
 use Rattle.qir_meaning.proofs.Bridge.{Enters, IsInvariant, IsKept, Leads, relation-keeps-behaviour, relation-simulates}
 use Rattle.kept_items.specs.declared.item.Choice.{Choice}
 use Rattle.kept_items.specs.declared.target.Target.{Target}

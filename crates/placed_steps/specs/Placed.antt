@@ -7,9 +7,10 @@ use Rattle.ir_module.specs.declared.tree.Module.{Module}
 use Rattle.ir_module.specs.Entry.{Entry}
 use Rattle.ir_values.specs.declared.ids.LocalId.{LocalId}
 use Rattle.ir_values.specs.Int.{IntValue}
+use Rattle.qir_meaning.specs.code.Steps.{Whole, whole_start}
 use Rattle.qir_meaning.specs.Runs.{RunEnd, Returned, end_of, start}
 use Rattle.qir_meaning.specs.State.{State}
-use Rattle.qir_meaning.specs.code.Simulation.{Whole, Alike, EndsBy, GoesBy, whole_start}
+use Rattle.qir_meaning.specs.code.Simulation.{Alike, EndsBy, GoesBy}
 use Rattle.kept_items.specs.declared.item.Choice.{Choice}
 use Rattle.kept_items.specs.declared.target.Target.{Target}
 use Rattle.kept_items.specs.Items.{Did, Gave, Stopped, Senseless, chosen, coded, did_some, dynamic}

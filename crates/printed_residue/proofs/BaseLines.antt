@@ -18,8 +18,8 @@ use Rattle.ir_values.specs.Int.{IntValue}
 use Rattle.qir_meaning.specs.Moves.{block_in}
 use Rattle.qir_meaning.specs.Runs.{start}
 use Rattle.qir_meaning.specs.State.{Env, State}
-use Rattle.qir_meaning.specs.code.Simulation.{GoesBy, Off, On, Whole, tick, tick_of, whole_start}
-use Rattle.qir_meaning.specs.code.Steps.{returned}
+use Rattle.qir_meaning.specs.code.Simulation.{GoesBy}
+use Rattle.qir_meaning.specs.code.Steps.{returned, Off, On, Whole, tick, tick_of, whole_start}
 use Rattle.qir_meaning.proofs.Behaviour.{goes-on-by}
 use Rattle.kept_items.specs.declared.item.Item.{Item}
 use Rattle.kept_items.specs.declared.item.Item.TheVariants as item

@@ -23,8 +23,7 @@ use Rattle.qir_meaning.specs.Effects.{is_one}
 use Rattle.qir_meaning.specs.Moves.{entry_for}
 use Rattle.qir_meaning.specs.Runs.{start}
 use Rattle.qir_meaning.specs.State.{Env, State, value_of}
-use Rattle.qir_meaning.specs.code.Simulation.{Off, On, Whole, tick, tick_of, whole_start}
-use Rattle.qir_meaning.specs.code.Steps.{returned}
+use Rattle.qir_meaning.specs.code.Steps.{returned, Off, On, Whole, tick, tick_of, whole_start}
 use Rattle.kept_items.specs.declared.target.Caps.{Caps}
 use Rattle.kept_items.specs.declared.target.Target.{Target}
 use Rattle.kept_items.specs.declared.target.Target.TheVariants.{Adaptive}

@@ -14,9 +14,9 @@ use Rattle.ir_values.specs.declared.int.Width.{Width}
 use Rattle.ir_values.specs.declared.ty.Ty.{Ty}
 use Rattle.ir_values.specs.declared.value.Value.TheVariants as value
 use Rattle.ir_values.specs.Int.{IntValue}
+use Rattle.qir_meaning.specs.code.Steps.{Whole}
 use Rattle.qir_meaning.specs.Moves.{block_in}
 use Rattle.qir_meaning.specs.State.{Env, State}
-use Rattle.qir_meaning.specs.code.Simulation.{Whole}
 use Rattle.kept_items.specs.declared.item.Item.{Item}
 use Rattle.kept_items.specs.declared.item.Item.TheVariants as item
 use Rattle.kept_items.specs.declared.target.Caps.{Caps}

@@ -43,11 +43,11 @@ use Rattle.qir_meaning.specs.Effects.{is_one, same_bit, reading, recorded, gives
 use Rattle.qir_meaning.specs.Moves.{performs, computes, with_values, block_in}
 use Rattle.qir_meaning.specs.Naming.{fixed_naming, named_end}
 use Rattle.qir_meaning.specs.Runs.{end_of}
-use Rattle.qir_meaning.specs.code.Simulation.{Whole, On, Off, tick, tick_of, GoesBy}
+use Rattle.qir_meaning.specs.code.Simulation.{GoesBy}
 use Rattle.qir_meaning.proofs.Behaviour.{goes-on-by}
 use Rattle.qir_meaning.specs.State.{Env, State, Stop, Trap, Ask, with_record, next, bind, value_at, value_of, values_of, one_more, with_event, with_bit, bit_of}
 use Rattle.qir_meaning.specs.State as run
-use Rattle.qir_meaning.specs.code.Steps.{Ended}
+use Rattle.qir_meaning.specs.code.Steps.{Ended, Whole, On, Off, tick, tick_of}
 use Rattle.kept_items.specs.declared.item.Item.{Item}
 use Rattle.kept_items.specs.declared.item.Item.TheVariants as item
 use Rattle.kept_items.specs.declared.val.Dyn.{Dyn}

@@ -29,10 +29,10 @@ use Rattle.ir_values.specs.declared.ids.LocalId.{LocalId}
 use Rattle.ir_values.specs.declared.value.Value.{Value}
 use Rattle.ir_values.specs.declared.value.Value.TheVariants as value
 use Rattle.ir_values.specs.Int.{IntValue}
+use Rattle.qir_meaning.specs.code.Steps.{Whole, tick, tick_of}
 use Rattle.qir_meaning.specs.Effects.{argument, arguments, declared_call, first_result}
 use Rattle.qir_meaning.specs.Moves.{move, does, performs, calls, with_body, declared, with_values, step_move, given, block_in}
 use Rattle.qir_meaning.specs.Naming.{fixed_naming}
-use Rattle.qir_meaning.specs.code.Simulation.{Whole, tick, tick_of}
 use Rattle.qir_meaning.specs.State.{Env, State, next, bind, value_at, value_of, values_of, one_more, with_event, with_bit, bit_of}
 use Rattle.qir_meaning.specs.State as run
 use Rattle.kept_items.specs.declared.val.Val.{Val}

@@ -15,10 +15,10 @@ use Rattle.ir_values.specs.Int.{IntValue}
 use Rattle.qir_meaning.specs.Effects.{is_one}
 use Rattle.qir_meaning.specs.Moves.{move, step_move, ends, phis_take, block_in, jump, leads_to, arrives, target_of, with_value, with_int}
 use Rattle.qir_meaning.specs.Naming.{fixed_naming}
-use Rattle.qir_meaning.specs.code.Simulation.{Whole, Tick, On, Off, tick, tick_of, GoesBy}
+use Rattle.qir_meaning.specs.code.Simulation.{GoesBy}
 use Rattle.qir_meaning.specs.State.{Env, State, value_at, value_of}
 use Rattle.qir_meaning.specs.State as run
-use Rattle.qir_meaning.specs.code.Steps.{returned}
+use Rattle.qir_meaning.specs.code.Steps.{returned, Whole, Tick, On, Off, tick, tick_of}
 use Rattle.residue.specs.declared.parts.Jump.{Jump}
 use Rattle.residue.specs.declared.parts.Tail.{Tail}
 use Rattle.residue.specs.declared.parts.Tail.TheVariants as tail

@@ -9,8 +9,8 @@ use Rattle.ir_values.specs.Int.{IntValue}
 use Rattle.qir_meaning.specs.Naming.{named_end}
 use Rattle.qir_meaning.specs.Runs.{end_of, start}
 use Rattle.qir_meaning.specs.State.{State}
-use Rattle.qir_meaning.specs.code.Simulation.{GoesBy, Off, On, Whole, tick, whole_start}
-use Rattle.qir_meaning.specs.code.Steps.{Ended, returned}
+use Rattle.qir_meaning.specs.code.Simulation.{GoesBy}
+use Rattle.qir_meaning.specs.code.Steps.{Ended, returned, Off, On, Whole, tick, whole_start}
 use Rattle.kept_items.specs.declared.item.Item.{Item}
 use Rattle.kept_items.specs.declared.target.Caps.{Caps}
 use Rattle.kept_items.specs.declared.target.Target.{Target}

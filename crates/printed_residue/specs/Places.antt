@@ -8,10 +8,10 @@ use Rattle.ir_values.specs.declared.int.Width.{Width}
 use Rattle.ir_values.specs.declared.value.Value.{Value}
 use Rattle.ir_values.specs.declared.value.Value.TheVariants as value
 use Rattle.ir_values.specs.Int.{IntValue}
+use Rattle.qir_meaning.specs.code.Steps.{Whole}
 use Rattle.qir_meaning.specs.Effects.{is_one}
 use Rattle.qir_meaning.specs.Naming.{fixed_naming}
 use Rattle.qir_meaning.specs.State.{Env, State, value_at}
-use Rattle.qir_meaning.specs.code.Simulation.{Whole}
 use Rattle.kept_items.specs.Items.{dynamic, valued}
 use Rattle.kept_items.specs.declared.item.Item.{Item}
 use Rattle.kept_items.specs.declared.item.Item.TheVariants as item

@@ -29,36 +29,19 @@ use Rattle.qir_meaning.specs.declared.end.End.TheVariants as end
 use Rattle.qir_meaning.specs.Moves.{move}
 use Rattle.qir_meaning.specs.Runs.{Cut, RunEnd, Runs, end_of}
 use Rattle.qir_meaning.specs.State.{State, Move, Trap, Ask, Next, Enter, Back, Halt, Stuck}
-use Rattle.qir_meaning.specs.code.Simulation.{Whole, Tick, On, Off, tick_of, tick, run, gives_back, whole_start}
-use Rattle.qir_meaning.specs.code.Steps.{Waiting, Outcome, Ended as Over, Finished, Jam, exec, resume, returned, turn}
+use Rattle.qir_meaning.specs.code.Steps.{Waiting, Outcome, Ended as Over, Finished, Jam, returned, Whole, Tick, On, Off, tick_of, tick, run, gives_back, whole_start, goes}
 use Rattle.qir_meaning.proofs.Forms.{run_of_entry, run-by-steps-is, steps-runs}
 use Rattle.type_check.specs.Faults.{Typed}
 use Rattle.type_check.specs.Required.{required_qubits, required_results}
 use Rattle.typed_runs.specs.Fits.{FitsAlways, TickFits, WholeFits}
 use Rattle.typed_runs.specs.Laws.{InvariantHolds}
 
--- what a run makes of a tick
-abbrev then_run : Module → ℕ → Tick → Outcome
-then_run m n (On w) = run m n w
-then_run m n (Off o) = o
-
-resume-is : (m : Module) (n : ℕ) (ws : List Waiting) (v : Option Value) (st : State) → resume (exec m n) ws v st ≡ then_run m n (gives_back ws v st)
-resume-is m n [] v st = refl
-resume-is m n (w ∷ ws) v st = refl
-
-turn-is : (m : Module) (n : ℕ) (w : Whole) (mv : Move) → turn (exec m n) w.at w.env w.waits w.state mv ≡ then_run m n (tick_of w mv)
-turn-is m n w (Next p env st) = refl
-turn-is m n w (Enter q env x st) = refl
-turn-is m n w (Back v) = resume-is m n w.waits v w.state
-turn-is m n w (Halt stop st) = refl
-turn-is m n w Stuck = refl
-
-run-step : (m : Module) (n k : ℕ) (w : Whole) → k ≡ suc n → run m k w ≡ then_run m n (tick_of w (move m w.at w.env w.state))
-unfolding exec
-run-step m n k w e = ap (λ j. run m j w) e ∙ turn-is m n w (move m w.at w.env w.state)
+run-step : (m : Module) (n k : ℕ) (w : Whole) → k ≡ suc n → run m k w ≡ goes (run m n) (tick_of w (move m w.at w.env w.state))
+unfolding run tick
+run-step m n k w e = ap (λ j. run m j w) e
 
 run-none : (m : Module) (k : ℕ) (w : Whole) → k ≡ 0 → run m k w ≡ Over Cut w.state
-unfolding exec
+unfolding run
 run-none m k w e = ap (λ j. run m j w) e
 
 module _ (m : Module) (entry : Entry) (is : entry_of m ≡ Some entry) where
@@ -145,7 +128,7 @@ module _ (m : Module) (limit : ℕ) (numbered : Numbered m) (typed : Typed m lim
     answers-first new r = ap (λ l. l ++ r) (answers-append h.new new) ∙ append_assoc (answers_of h.new) (answers_of new) r
 
     -- the whole run, one instruction further
-    further : (n k : ℕ) (new : List Event) (r : List Answer) → n ≡ used + (k + 1) → run m n (whole_start h.entry (answers_of (h.new ++ new) ++ r)) ≡ then_run m k (tick_of (now new r) (move_apt m s.frames.at s.frames.env (now new r).state))
+    further : (n k : ℕ) (new : List Event) (r : List Answer) → n ≡ used + (k + 1) → run m n (whole_start h.entry (answers_of (h.new ++ new) ++ r)) ≡ goes (run m k) (tick_of (now new r) (move_apt m s.frames.at s.frames.env (now new r).state))
     unfolding tick
     further n k new r e =
         let f : k + 1 ≡ suc k = omega arith in
@@ -153,7 +136,7 @@ module _ (m : Module) (limit : ℕ) (numbered : Numbered m) (typed : Typed m lim
         ∙ ap (λ j. run m j (whole_start h.entry (answers_of h.new ++ (answers_of new ++ r)))) e
         ∙ h.same (k + 1) (answers_of new ++ r)
         ∙ run-step m k (k + 1) (now new r) f
-        ∙ ap (then_run m k) (sym (tick-apt (now new r) (h.fits (answers_of new ++ r))))
+        ∙ ap (goes (run m k)) (sym (tick-apt (now new r) (h.fits (answers_of new ++ r))))
 
     -- before the next instruction the run is cut, also at each bound before
     cut-until : (n : ℕ) → n ≤ used → (new : List Event) (r : List Answer) → (st : State) × (run m n (whole_start h.entry (answers_of (h.new ++ new) ++ r)) ≡ Over Cut st)
@@ -180,7 +163,7 @@ module _ (m : Module) (limit : ℕ) (numbered : Numbered m) (typed : Typed m lim
       knows = (d.does [] h.new h.knows).0;
       measured = let l = h.measured in omega arith;
       fits = λ r. subst (TickFits m K R) (sym (tick-apt (now d.new r) (h.fits (answers_of d.new ++ r))) ∙ (d.does r h.new h.knows).1) (always.kept (now d.new r) (h.fits (answers_of d.new ++ r)));
-      same = λ k r. further ((used + 1) + k) k d.new r (omega arith) ∙ ap (then_run m k) (d.does r h.new h.knows).1;
+      same = λ k r. further ((used + 1) + k) k d.new r (omega arith) ∙ ap (goes (run m k)) (d.does r h.new h.knows).1;
       cut = λ n lt r. cut-until n (omega arith) d.new r;
     }
 
@@ -192,8 +175,8 @@ module _ (m : Module) (limit : ℕ) (numbered : Numbered m) (typed : Typed m lim
         let last : run m n (whole_start h.entry all) ≡ Over (meant e) (state s' [] (h.new ++ d.new)) =
         ap (λ l. run m n (whole_start h.entry l)) (sym (append-nil all))
         ∙ further n k d.new [] (omega arith)
-        ∙ ap (λ l. then_run m k (tick_of (whole_of s l h.new) (move_apt m s.frames.at s.frames.env (state s l h.new)))) (append-nil (answers_of d.new))
-        ∙ ap (then_run m k) (d.does h.new h.knows)
+        ∙ ap (λ l. goes (run m k) (tick_of (whole_of s l h.new) (move_apt m s.frames.at s.frames.env (state s l h.new)))) (append-nil (answers_of d.new))
+        ∙ ap (goes (run m k)) (d.does h.new h.knows)
         in
         runs-of m h.entry h.is_entry n all (h.new ++ d.new) s'.records (meant e) (subst (λ o. Finished o (meant e) (h.new ++ d.new) s'.records) (sym last) (refl, refl, refl))
 

@@ -28,8 +28,7 @@ use Rattle.qir_machine.proofs.Hearing.{caused-by, heard-one, heard-refused}
 use Rattle.qir_meaning.specs.declared.end.End.TheVariants as end
 use Rattle.qir_meaning.specs.Effects.{first_result, gate, gives, measure, measure_into, measure_returning, operation}
 use Rattle.qir_meaning.specs.State.{Env, State, Move, Ask, Halt, bind, bit_in, next}
-use Rattle.qir_meaning.specs.code.Simulation.{Tick, On, Off, tick_of}
-use Rattle.qir_meaning.specs.code.Steps.{Ended as Over}
+use Rattle.qir_meaning.specs.code.Steps.{Ended as Over, Tick, On, Off, tick_of}
 
 -- ---- the bits after one event more
 

@@ -42,10 +42,10 @@ use Rattle.ir_values.specs.declared.ty.Ty.TheVariants as ty
 use Rattle.ir_values.specs.declared.value.Value.{Value}
 use Rattle.ir_values.specs.declared.value.Value.TheVariants as value
 use Rattle.machine_frames.specs.code.Apt.{same_width, apt, if_apt, issues, declared_apt, of_class, body_apt, calls_apt, performs_apt, does_apt, step_apt, move_apt}
+use Rattle.qir_meaning.specs.code.Steps.{Whole}
 use Rattle.qir_meaning.specs.Effects.{argument, arguments, declared_call, operation, first_result, gate, measure_into, measure_returning}
 use Rattle.qir_meaning.specs.Moves.{declared, with_body, calls, performs, does, with_values, step_move, move}
 use Rattle.qir_meaning.specs.State.{Env, State, Move, Trap, Halt, is_held, values_of}
-use Rattle.qir_meaning.specs.code.Simulation.{Whole}
 use Rattle.type_check.specs.Faults.{Typed}
 use Rattle.type_check.specs.Required.{required_qubits, required_results}
 use Rattle.type_check.specs.Rules.{kind_agrees, result_agrees, number_below, operand_known}

@@ -16,10 +16,10 @@ use Rattle.machine_tables.specs.Allocated.{Allocated}
 use Rattle.machine_tables.specs.code.Reads.{bit_at}
 use Rattle.qir_machine.specs.declared.machine.Machine.{Machine}
 use Rattle.qir_machine.specs.code.Machines.{Begins, state, whole_of}
+use Rattle.qir_meaning.specs.code.Steps.{Whole, whole_start}
 use Rattle.qir_meaning.specs.Moves.{first_point}
 use Rattle.qir_meaning.specs.Runs.{start}
 use Rattle.qir_meaning.specs.State.{State, frame}
-use Rattle.qir_meaning.specs.code.Simulation.{Whole, whole_start}
 use Rattle.typed_runs.proofs.Wholes.{entry-is}
 
 -- an entry by its number

@@ -33,8 +33,7 @@ use Rattle.qir_meaning.specs.declared.end.End.TheVariants as end
 use Rattle.qir_meaning.specs.Effects.{declared_call}
 use Rattle.qir_meaning.specs.Runs.{start}
 use Rattle.qir_meaning.specs.State.{Env, State, Move, Trap, Halt, Stuck}
-use Rattle.qir_meaning.specs.code.Simulation.{Tick, On, Off, tick_of}
-use Rattle.qir_meaning.specs.code.Steps.{Ended as Over, Jam}
+use Rattle.qir_meaning.specs.code.Steps.{Ended as Over, Jam, Tick, On, Off, tick_of}
 
 own-caused : (e : End) (b : BackendState) → IsOwn e → Caused e b b
 own-caused (end.Returned code) b h = tt

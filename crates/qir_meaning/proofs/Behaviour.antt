@@ -12,11 +12,11 @@ use Rattle.backend_api.specs.Naming.{Naming, named_events}
 use Rattle.qir_meaning.specs.Naming.{named_end}
 use Rattle.qir_meaning.specs.Runs.{RunEnd, Cut, Runs}
 use Rattle.qir_meaning.specs.Same.{Prefix, SameBehaviour}
-use Rattle.qir_meaning.specs.code.Simulation.{Whole, Tick, On, Off, tick, run, whole_start, GoesBy, Alike, EndsBy, Meets, Follows, Started, Simulation}
+use Rattle.qir_meaning.specs.code.Simulation.{GoesBy, Alike, EndsBy, Meets, Follows, Started, Simulation}
 use Rattle.qir_meaning.specs.State.{State}
-use Rattle.qir_meaning.specs.code.Steps.{Outcome, Ended, Jam}
+use Rattle.qir_meaning.specs.code.Steps.{Outcome, Ended, Jam, Whole, Tick, On, Off, tick, run, whole_start, goes}
 use Rattle.qir_meaning.proofs.Bounds.{EndsSo, run-from, runs-from, cut-or-over, over-of, prefix-at}
-use Rattle.qir_meaning.proofs.Grow.{Grows, OutGrows, IsOver, IsOverEnd, goes, run-suc, run-zero, run-grows, later-grows, longer, off-over, same-ends}
+use Rattle.qir_meaning.proofs.Grow.{Grows, OutGrows, IsOver, IsOverEnd, run-suc, run-zero, run-grows, later-grows, longer, off-over, same-ends}
 
 -- further steps after so many
 pub after-steps : (l : Module) (j k i : ℕ) (v u : Whole) → GoesBy l j v u → i ≡ j + k → run l i v ≡ run l k u

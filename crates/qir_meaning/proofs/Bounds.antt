@@ -8,9 +8,8 @@ use Rattle.output_records.specs.declared.record.Record.{Record}
 use Rattle.ir_module.specs.Entry.{Entry, entry_of}
 use Rattle.qir_meaning.specs.Runs.{RunEnd, Returned, Trapped, Asks, Cut, Runs}
 use Rattle.qir_meaning.specs.Same.{Prefix}
-use Rattle.qir_meaning.specs.code.Simulation.{run, whole_start}
 use Rattle.qir_meaning.specs.State.{State}
-use Rattle.qir_meaning.specs.code.Steps.{Outcome, Ended, Jam, run_by_steps, Finished}
+use Rattle.qir_meaning.specs.code.Steps.{Outcome, Ended, Jam, run_by_steps, Finished, run, whole_start}
 use Rattle.qir_meaning.proofs.Forms.{run-by-steps-is, runs-steps, steps-runs}
 use Rattle.qir_meaning.proofs.Grow.{IsOverEnd, longer, later-grows, OutGrows}
 

@@ -6,14 +6,14 @@ use Rattle.backend_api.specs.declared.operation.Answer.{Answer}
 use Rattle.backend_api.specs.Naming.{Naming}
 use Rattle.ir_module.specs.declared.tree.Module.{Module}
 use Rattle.ir_module.specs.Entry.{Entry, entry_of}
-use Rattle.qir_meaning.specs.code.Simulation.{Whole, Tick, On, Off, Alike, Meets, Follows, GoesBy, Simulation, run, tick, whole_start}
-use Rattle.qir_meaning.specs.code.Steps.{Outcome, Ended, Jam}
+use Rattle.qir_meaning.specs.code.Simulation.{Alike, Meets, Follows, GoesBy, Simulation}
+use Rattle.qir_meaning.specs.code.Steps.{Outcome, Ended, Jam, Whole, Tick, On, Off, run, tick, whole_start, goes}
 use Rattle.qir_meaning.specs.Runs.{RunEnd, Cut, Runs, AlwaysRuns}
 use Rattle.qir_meaning.specs.Same.{SameBehaviour}
 use Rattle.qir_meaning.specs.State.{State}
 use Rattle.qir_meaning.proofs.Behaviour.{same-behaviour}
 use Rattle.qir_meaning.proofs.Bounds.{runs-from}
-use Rattle.qir_meaning.proofs.Grow.{goes, run-suc, run-zero}
+use Rattle.qir_meaning.proofs.Grow.{run-suc, run-zero}
 
 -- ---- an invariant gives runs
 

@@ -13,7 +13,7 @@ use Rattle.ir_module.specs.Entry.{Entry, entry_of}
 use Rattle.qir_meaning.specs.Moves.{move, first_point}
 use Rattle.qir_meaning.specs.Runs.{RunEnd, Cut, end_of, Result, Gave, Over, bind_result, Body, cut, halts, back, next_point, calls, ends_in, Ends, start, Runs}
 use Rattle.qir_meaning.specs.State.{Env, State, Move, Next, Enter, Back, Halt, Stuck, next, frame}
-use Rattle.qir_meaning.specs.code.Steps.{Waiting, Outcome, Ended, Jam, returned, resume, turn, exec, run_by_steps, Finished}
+use Rattle.qir_meaning.specs.code.Steps.{Waiting, Whole, Outcome, Ended, Jam, returned, gives_back, tick_of, tick, goes, run, whole_start, run_by_steps, Finished}
 
 -- A third form, by fuel: k bounds how deep the calls of the definition go, and k = n is enough, since each takes a step.
 data Found : Type 0 where
@@ -37,9 +37,12 @@ body_by k m p env zero st = Got (Over Cut st)
 body_by zero m p env (suc n) st = Lost
 body_by (suc k) m p env (suc n) st = acts (body_by k m) p env n st (move m p env st)
 
+abbrev whole : Point → Env → List Waiting → State → Whole
+whole p env ws st = record { at = p; env = env; waits = ws; state = st }
+
 -- what a stack of frames makes of a body's result
 abbrev met : Module → List Waiting → Found → Outcome
-met m ws (Got (Gave v n st)) = resume (exec m n) ws v st
+met m ws (Got (Gave v n st)) = goes (run m n) (gives_back ws v st)
 met m ws (Got (Over e st)) = Ended e st
 met m ws Lost = Jam
 
@@ -74,14 +77,14 @@ within m zero p env (suc n) st = tt
 within m (suc k) p env zero st = tt
 within m (suc k) p env (suc n) st = acts-within (body_by k m) (within m k) p env n st (move m p env st)
 
-module _ (m : Module) (k : ℕ) (ih : (n : ℕ) → n ≤ k → (p : Point) (env : Env) (ws : List Waiting) (st : State) → exec m n p env ws st ≡ met m ws (body_by k m p env n st)) where
+module _ (m : Module) (k : ℕ) (ih : (n : ℕ) → n ≤ k → (p : Point) (env : Env) (ws : List Waiting) (st : State) → run m n (whole p env ws st) ≡ met m ws (body_by k m p env n st)) where
   -- after a call
   follow-same : (p : Point) (env : Env) (x : Option LocalId) (n : ℕ) (ws : List Waiting) → n ≤ k → (f : Found) → Within n f → met m ((record { at = p; env = env; result = x }) ∷ ws) f ≡ met m ws (follow (body_by k m) p env x f)
   follow-same p env x n ws le (Got (Gave v n' st)) h = ih n' (omega arith) p (bind_result env x v) ws st
   follow-same p env x n ws le (Got (Over e st)) h = refl
   follow-same p env x n ws le Lost h = refl
 
-  acts-same : (n : ℕ) → n ≤ k → (p : Point) (env : Env) (ws : List Waiting) (st : State) (mv : Move) → turn (exec m n) p env ws st mv ≡ met m ws (acts (body_by k m) p env n st mv)
+  acts-same : (n : ℕ) → n ≤ k → (p : Point) (env : Env) (ws : List Waiting) (st : State) (mv : Move) → goes (run m n) (tick_of (whole p env ws st) mv) ≡ met m ws (acts (body_by k m) p env n st mv)
   acts-same n le p env ws st (Next p' env' st') = ih n le p' env' ws st'
   acts-same n le p env ws st (Enter q env' x st') = ih n le q env' _ st' ∙ follow-same (next p) env x n ws le (body_by k m q env' n st') (within m k q env' n st')
   acts-same n le p env ws st (Back v) = refl
@@ -89,23 +92,23 @@ module _ (m : Module) (k : ℕ) (ih : (n : ℕ) → n ≤ k → (p : Point) (env
   acts-same n le p env ws st Stuck = refl
 
 -- with fuel for each step, the form by fuel is the form by steps
-same-by : (m : Module) (k n : ℕ) → n ≤ k → (p : Point) (env : Env) (ws : List Waiting) (st : State) → exec m n p env ws st ≡ met m ws (body_by k m p env n st)
-unfolding body_by exec
+same-by : (m : Module) (k n : ℕ) → n ≤ k → (p : Point) (env : Env) (ws : List Waiting) (st : State) → run m n (whole p env ws st) ≡ met m ws (body_by k m p env n st)
+unfolding body_by run tick
 same-by m zero zero le p env ws st = refl
 same-by m zero (suc n) le p env ws st = absurd (omega arith)
 same-by m (suc k) zero le p env ws st = refl
 same-by m (suc k) (suc n) le p env ws st = acts-same m k (same-by m k) n (omega arith) p env ws st (move m p env st)
 
-one : (m : Module) (n : ℕ) (p : Point) (env : Env) (ws : List Waiting) (st : State) (mv : Move) → move m p env st ≡ mv → exec m (suc n) p env ws st ≡ turn (exec m n) p env ws st mv
-unfolding exec
-one m n p env ws st mv e = ap (turn (exec m n) p env ws st) e
+one : (m : Module) (n : ℕ) (p : Point) (env : Env) (ws : List Waiting) (st : State) (mv : Move) → move m p env st ≡ mv → run m (suc n) (whole p env ws st) ≡ goes (run m n) (tick_of (whole p env ws st) mv)
+unfolding run tick
+one m n p env ws st mv e = ap (λ x. goes (run m n) (tick_of (whole p env ws st) x)) e
 
-none : (m : Module) (p : Point) (env : Env) (ws : List Waiting) (st : State) → exec m zero p env ws st ≡ Ended Cut st
-unfolding exec
+none : (m : Module) (p : Point) (env : Env) (ws : List Waiting) (st : State) → run m zero (whole p env ws st) ≡ Ended Cut st
+unfolding run
 none m p env ws st = refl
 
 -- a derivation says what the steps do
-sound : {m : Module} {p : Point} {env : Env} {n : ℕ} {st : State} {r : Result} → Body m p env n st r → (ws : List Waiting) → exec m n p env ws st ≡ met m ws (Got r)
+sound : {m : Module} {p : Point} {env : Env} {n : ℕ} {st : State} {r : Result} → Body m p env n st r → (ws : List Waiting) → run m n (whole p env ws st) ≡ met m ws (Got r)
 sound {m} {p} {env} {n} {st} cut ws = none m p env ws st
 sound {m} {p} {env} {n} {st} (halts {n = j} e) ws = one m j p env ws st _ e
 sound {m} {p} {env} {n} {st} (back {n = j} e) ws = one m j p env ws st _ e
@@ -168,7 +171,7 @@ finished-ends m (Over e' st) e es rs h = h
 
 -- the run of an entry
 abbrev pub run_of : Module → ℕ → List Answer → Entry → Outcome
-run_of m n a e = exec m n (first_point (record { 0 = e.number })) (frame e.function []) [] (start a)
+run_of m n a e = run m n (whole_start e a)
 
 abbrev pub run_of_entry : Module → ℕ → List Answer → Option Entry → Outcome
 run_of_entry m n a None = Jam

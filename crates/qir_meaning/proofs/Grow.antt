@@ -39,9 +39,8 @@ use Rattle.ir_module.specs.Classes.{class_of_function}
 use Rattle.qir_meaning.specs.Moves.{with_value, with_values, with_int, move, step_move, does, computes, performs, declared, with_body, calls, ends, arrives, leads_to, jump, phis_take, block_in, target_of}
 use Rattle.qir_meaning.specs.Runs.{RunEnd, Returned, Trapped, Asks, Cut, end_of}
 use Rattle.qir_meaning.specs.Same.{Prefix}
-use Rattle.qir_meaning.specs.code.Simulation.{Whole, Tick, On, Off, gives_back, tick_of, tick, run}
 use Rattle.qir_meaning.specs.State.{Env, State, Stop, Trap, Ask, Move, Next, Enter, Back, Halt, Stuck, value_of, values_of, is_held, bit_of, with_event, with_bit}
-use Rattle.qir_meaning.specs.code.Steps.{Waiting, Outcome, Ended, Jam, returned, resume, turn, exec}
+use Rattle.qir_meaning.specs.code.Steps.{Waiting, Outcome, Ended, Jam, returned, Whole, Tick, On, Off, gives_back, tick_of, tick, run, goes}
 
 pub prefix-refl : {A : Type 0} (xs : List A) → Prefix xs xs
 prefix-refl xs = ([], sym (append-nil xs))
@@ -260,27 +259,12 @@ off-over m w e st t = (subst (TickGrows w.state) t (tick-grows m w)).1
 
 -- a run, one instruction at a time
 
-abbrev pub goes : (Whole → Outcome) → Tick → Outcome
-goes go (On w) = go w
-goes go (Off o) = o
-
-resume-goes : (m : Module) (n : ℕ) (ws : List Waiting) (v : Option Value) (st : State) → resume (exec m n) ws v st ≡ goes (run m n) (gives_back ws v st)
-resume-goes m n [] v st = refl
-resume-goes m n (u ∷ us) v st = refl
-
-turn-goes : (m : Module) (n : ℕ) (w : Whole) (mv : Move) → turn (exec m n) w.at w.env w.waits w.state mv ≡ goes (run m n) (tick_of w mv)
-turn-goes m n w (Next p env st) = refl
-turn-goes m n w (Enter q env x st) = refl
-turn-goes m n w (Back v) = resume-goes m n w.waits v w.state
-turn-goes m n w (Halt stop st) = refl
-turn-goes m n w Stuck = refl
-
 pub run-suc : (m : Module) (n : ℕ) (w : Whole) → run m (suc n) w ≡ goes (run m n) (tick m w)
-unfolding exec tick
-run-suc m n w = turn-goes m n w (move m w.at w.env w.state)
+unfolding run
+run-suc m n w = refl
 
 pub run-zero : (m : Module) (w : Whole) → run m 0 w ≡ Ended Cut w.state
-unfolding exec
+unfolding run
 run-zero m w = refl
 
 abbrev pub IsOver : Outcome → Type 0

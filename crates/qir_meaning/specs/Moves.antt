@@ -1,5 +1,5 @@
 -- What one instruction does, by one case for each kind (LLVM Language Reference, 'Instruction Reference').
-use Rattle.std.specs.Prelude.{ℕ, ◌==◌, if◌then◌else◌, Option, None, Some, List, [], ◌∷◌, length, map, take, slice_get, slice_set, Result, Ok, Err}
+use Rattle.std.specs.Prelude.{◌==◌, if◌then◌else◌, Option, None, Some, List, [], ◌∷◌, length, map, slice_get, slice_set, Result, Ok, Err}
 use Rattle.ir_module.specs.declared.places.Point.{Point}
 use Rattle.ir_module.specs.declared.tree.Block.{Block}
 use Rattle.ir_module.specs.declared.tree.Function.{Function}
@@ -14,7 +14,6 @@ use Rattle.ir_module.specs.Classes.{class_of_function}
 use Rattle.ir_module.specs.Operands.{operands_of}
 use Rattle.ir_module.specs.Steps.{Step, PhiAt, InstAt, TermAt, NoStep, step_in_module}
 use Rattle.ir_module.specs.Tree.{block_at}
-use Rattle.ir_values.specs.declared.sig.TyWord.{TyWord}
 use Rattle.ir_values.specs.declared.ty.Ty.{Ty}
 use Rattle.ir_values.specs.declared.ty.Ty.TheVariants as ty
 use Rattle.ir_values.specs.declared.ids.BlockId.{BlockId}
@@ -26,10 +25,8 @@ use Rattle.ir_values.specs.declared.ids.LocalId.{LocalId}
 use Rattle.ir_values.specs.declared.value.Value.{Value}
 use Rattle.ir_values.specs.declared.value.Value.TheVariants as value
 use Rattle.ir_values.specs.Arithmetic.{binary_of, compare_of, convert_of}
-use Rattle.ir_values.specs.Calls.{class_of}
 use Rattle.ir_values.specs.Int.{IntValue}
 use Rattle.ir_values.specs.Names.{name_text}
-use Rattle.ir_values.specs.Types.{signature}
 use Rattle.qir_meaning.specs.Effects.{bit_value, declared_call, gives, is_one}
 use Rattle.qir_meaning.specs.State.{Env, State, Trap, Move, Next, Enter, Back, Halt, Stuck, value_of, values_of, frame}
 

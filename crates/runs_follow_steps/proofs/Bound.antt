@@ -7,9 +7,8 @@ use Rattle.ir_values.specs.declared.value.Value.{Value}
 use Rattle.ir_values.specs.declared.value.Value.TheVariants as value
 use Rattle.ir_values.specs.Int.{IntValue}
 use Rattle.qir_meaning.specs.Effects.{gives}
-use Rattle.qir_meaning.specs.code.Simulation.{Whole, Tick, On, tick_of}
 use Rattle.qir_meaning.specs.State.{Env, State, bind, next}
-use Rattle.qir_meaning.specs.code.Steps.{Waiting}
+use Rattle.qir_meaning.specs.code.Steps.{Waiting, Whole, Tick, On, tick_of}
 use Rattle.kept_items.specs.declared.item.Choice.TheVariants.{One}
 use Rattle.kept_items.specs.declared.item.Item.{Item}
 use Rattle.kept_items.specs.declared.val.Val.{Val}

@@ -14,8 +14,7 @@ use Rattle.ir_values.specs.declared.value.Value.TheVariants as value
 use Rattle.ir_values.specs.Int.{IntValue, signed}
 use Rattle.qir_meaning.specs.Moves.{first_point}
 use Rattle.qir_meaning.specs.State.{Env, State, Enter, bind, next, frame}
-use Rattle.qir_meaning.specs.code.Simulation.{Whole, On, tick_of, gives_back}
-use Rattle.qir_meaning.specs.code.Steps.{Waiting}
+use Rattle.qir_meaning.specs.code.Steps.{Waiting, Whole, On, tick_of, gives_back}
 use Rattle.kept_items.specs.declared.item.Code.TheVariants as code
 use Rattle.kept_items.specs.declared.target.Kind.TheVariants as kind
 use Rattle.kept_items.specs.declared.val.Val.{Val}

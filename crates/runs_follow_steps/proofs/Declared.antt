@@ -29,8 +29,7 @@ use Rattle.qir_meaning.specs.Effects.{is_one, same_bit, recorded, argument, argu
 use Rattle.qir_meaning.specs.State.{Env, State, Stuck, bind, next, is_held, with_allocation, without, with_event, with_bit, with_record, bit_of}
 use Rattle.qir_meaning.specs.State as run
 use Rattle.qir_meaning.specs.Runs.{Trapped}
-use Rattle.qir_meaning.specs.code.Simulation.{Whole, Tick, Off, tick_of}
-use Rattle.qir_meaning.specs.code.Steps.{Ended, Jam, Waiting}
+use Rattle.qir_meaning.specs.code.Steps.{Ended, Jam, Waiting, Whole, Tick, Off, tick_of}
 use Rattle.kept_items.specs.declared.item.Choice.TheVariants.{One}
 use Rattle.kept_items.specs.declared.item.Item.{Item}
 use Rattle.kept_items.specs.declared.item.Item.TheVariants.{Read, Equal}

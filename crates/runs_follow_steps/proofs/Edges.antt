@@ -14,8 +14,7 @@ use Rattle.ir_values.specs.Int.{IntValue}
 use Rattle.qir_meaning.specs.Effects.{is_one}
 use Rattle.qir_meaning.specs.Moves.{given, entry_for, phis_take, block_in, arrives, leads_to, jump, with_int, target_of}
 use Rattle.qir_meaning.specs.State.{Env, State, value_at, value_of}
-use Rattle.qir_meaning.specs.code.Simulation.{Whole, Tick, tick_of}
-use Rattle.qir_meaning.specs.code.Steps.{Waiting}
+use Rattle.qir_meaning.specs.code.Steps.{Waiting, Whole, Tick, tick_of}
 use Rattle.kept_items.specs.declared.item.Choice.{Choice}
 use Rattle.kept_items.specs.declared.item.Choice.TheVariants.{One, Branch, Switch}
 use Rattle.kept_items.specs.declared.target.Kind.TheVariants as kind

@@ -19,10 +19,9 @@ use Rattle.ir_values.specs.Arithmetic.{allows, binary_of, compare_of, converts, 
 use Rattle.ir_values.specs.Int.{IntValue}
 use Rattle.qir_meaning.specs.Effects.{gives, is_one}
 use Rattle.qir_meaning.specs.Moves.{performs, computes}
-use Rattle.qir_meaning.specs.code.Simulation.{Whole, tick_of}
 use Rattle.qir_meaning.specs.State.{Env, State, next}
 use Rattle.qir_meaning.specs.State as run
-use Rattle.qir_meaning.specs.code.Steps.{Waiting}
+use Rattle.qir_meaning.specs.code.Steps.{Waiting, Whole, tick_of}
 use Rattle.kept_items.specs.declared.item.Choice.TheVariants.{One}
 use Rattle.kept_items.specs.declared.item.Item.{Item}
 use Rattle.kept_items.specs.declared.item.Item.TheVariants.{Binary, Icmp, Convert, Select}

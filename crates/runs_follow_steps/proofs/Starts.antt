@@ -9,8 +9,8 @@ use Rattle.ir_module.specs.declared.tree.Module.{Module}
 use Rattle.ir_module.specs.Entry.{Entry, entry_from, entry_of, is_entry}
 use Rattle.ir_values.specs.declared.ids.LocalId.{LocalId}
 use Rattle.ir_values.specs.declared.value.Value.{Value}
+use Rattle.qir_meaning.specs.code.Steps.{whole_start}
 use Rattle.qir_meaning.specs.State.{frame}
-use Rattle.qir_meaning.specs.code.Simulation.{whole_start}
 use Rattle.static_steps.specs.Steps.{start_of}
 use Rattle.runs_follow_steps.specs.Describes.{Describes, locals_in_some}
 use Rattle.runs_follow_steps.proofs.Frames.{no-value}

@@ -27,8 +27,7 @@ use Rattle.qir_meaning.specs.Effects.{is_one}
 use Rattle.qir_meaning.specs.Moves.{move, does, performs, calls, with_body, declared, with_values, with_value, with_int, jump, target_of, step_move, ends}
 use Rattle.qir_meaning.specs.State.{Env, State, next, value_of, values_of}
 use Rattle.qir_meaning.specs.State as run
-use Rattle.qir_meaning.specs.code.Simulation.{Whole, tick, tick_of}
-use Rattle.qir_meaning.specs.code.Steps.{Waiting}
+use Rattle.qir_meaning.specs.code.Steps.{Waiting, Whole, tick, tick_of}
 use Rattle.kept_items.specs.declared.item.Choice.TheVariants.{One}
 use Rattle.kept_items.specs.declared.target.Target.{Target}
 use Rattle.kept_items.specs.declared.val.Val.{Val}

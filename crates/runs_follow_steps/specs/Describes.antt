@@ -10,8 +10,7 @@ use Rattle.ir_values.specs.declared.value.Value.TheVariants as value
 use Rattle.ir_values.specs.Int.{IntValue}
 use Rattle.name_flow.specs.Walks.{IsLive}
 use Rattle.qir_meaning.specs.State.{Env, State, value_at}
-use Rattle.qir_meaning.specs.code.Simulation.{Whole}
-use Rattle.qir_meaning.specs.code.Steps.{Waiting}
+use Rattle.qir_meaning.specs.code.Steps.{Waiting, Whole}
 use Rattle.kept_items.specs.declared.val.Val.{Val}
 use Rattle.kept_items.specs.declared.val.Val.TheVariants.{Known, Dynamic}
 use Rattle.kept_items.specs.Items.{dynamic}

@@ -1,5 +1,6 @@
 -- Laws of the static step, for every module, target and configuration.
 use Rattle.std.specs.Prelude.{◌≡◌, Bool, true, Some, List, []}
+use Rattle.qir_meaning.specs.code.Steps.{Whole, tick, whole_start}
 use Rattle.backend_api.specs.declared.operation.Answer.{Answer}
 use Rattle.ir_module.specs.declared.places.Point.{Point}
 use Rattle.ir_module.specs.declared.tree.Module.{Module}
@@ -7,7 +8,6 @@ use Rattle.ir_module.specs.Entry.{Entry, entry_of}
 use Rattle.ir_module.specs.Numbered.{numbers_in_range}
 use Rattle.ir_values.specs.declared.ids.LocalId.{LocalId}
 use Rattle.ir_values.specs.Int.{IntValue}
-use Rattle.qir_meaning.specs.code.Simulation.{Whole, tick, whole_start}
 use Rattle.kept_items.specs.declared.target.Target.{Target}
 use Rattle.static_steps.specs.declared.config.Config.{Config}
 use Rattle.static_steps.specs.Steps.{static_step, start_of}

@@ -7,8 +7,7 @@ use Rattle.ir_values.specs.declared.ids.LocalId.{LocalId}
 use Rattle.ir_values.specs.Int.{IntValue}
 use Rattle.qir_meaning.specs.Runs.{Returned, Trapped, end_of}
 use Rattle.qir_meaning.specs.State.{State}
-use Rattle.qir_meaning.specs.code.Simulation.{Whole, Tick, On, Off}
-use Rattle.qir_meaning.specs.code.Steps.{Ended, Jam}
+use Rattle.qir_meaning.specs.code.Steps.{Ended, Jam, Whole, Tick, On, Off}
 use Rattle.kept_items.specs.declared.item.Choice.{Choice}
 use Rattle.kept_items.specs.declared.target.Kind.{Kind}
 use Rattle.kept_items.specs.declared.target.Kind.TheVariants as kind

@@ -13,10 +13,9 @@ use Rattle.output_lines.specs.declared.last.StopName.{StopName}
 use Rattle.output_lines.specs.declared.last.StopName.TheVariants as stop
 use Rattle.qir_meaning.specs.Runs.{RunEnd, Returned, Trapped, Asks, Cut}
 use Rattle.qir_meaning.specs.State.{State}
-use Rattle.qir_meaning.specs.code.Simulation.{Whole, On, run, tick, whole_start}
-use Rattle.qir_meaning.specs.code.Steps.{Ended}
+use Rattle.qir_meaning.specs.code.Steps.{Ended, Whole, On, run, tick, whole_start, goes}
 use Rattle.qir_meaning.proofs.Bounds.{runs-from}
-use Rattle.qir_meaning.proofs.Grow.{goes, run-suc, run-zero}
+use Rattle.qir_meaning.proofs.Grow.{run-suc, run-zero}
 use Rattle.type_check.specs.Faults.{Typed}
 use Rattle.type_check.specs.Required.{required_qubits, required_results}
 use Rattle.typed_runs.specs.Fits.{FitsAlways}

@@ -13,10 +13,9 @@ use Rattle.output_lines.specs.declared.last.Last.TheVariants.{Stop}
 use Rattle.output_records.specs.declared.record.Record.{Record}
 use Rattle.qir_meaning.specs.Runs.{RunEnd, Returned, Trapped, Asks, Cut}
 use Rattle.qir_meaning.specs.State.{State}
-use Rattle.qir_meaning.specs.code.Simulation.{Whole, Tick, On, Off, run, tick, whole_start}
-use Rattle.qir_meaning.specs.code.Steps.{Ended}
+use Rattle.qir_meaning.specs.code.Steps.{Ended, Whole, Tick, On, Off, run, tick, whole_start, goes}
 use Rattle.qir_meaning.proofs.Bounds.{run-from}
-use Rattle.qir_meaning.proofs.Grow.{OutGrows, goes, run-grows, run-suc, run-zero, same-ends}
+use Rattle.qir_meaning.proofs.Grow.{OutGrows, run-grows, run-suc, run-zero, same-ends}
 use Rattle.type_check.specs.Faults.{Typed}
 use Rattle.type_check.specs.Required.{required_qubits, required_results}
 use Rattle.typed_runs.specs.Fits.{FitsAlways}

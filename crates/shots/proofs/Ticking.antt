@@ -14,8 +14,7 @@ use Rattle.machine_frames.specs.code.Apt.{move_apt}
 use Rattle.qir_machine.proofs.Aptly.{move-same}
 use Rattle.qir_meaning.specs.Runs.{RunEnd, Returned, Trapped, Asks as AsksFor, Cut, bind_result}
 use Rattle.qir_meaning.specs.State.{Move, next}
-use Rattle.qir_meaning.specs.code.Simulation.{Whole, On, Off, gives_back, tick, tick_of}
-use Rattle.qir_meaning.specs.code.Steps.{Waiting, Ended, Jam}
+use Rattle.qir_meaning.specs.code.Steps.{Waiting, Ended, Jam, Whole, On, Off, gives_back, tick, tick_of}
 use Rattle.type_check.specs.Faults.{Typed}
 use Rattle.type_check.specs.Required.{required_qubits, required_results}
 use Rattle.typed_runs.specs.Fits.{FitsAlways, TickFits, WholeFits}

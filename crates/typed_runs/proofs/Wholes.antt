@@ -28,8 +28,7 @@ use Rattle.qir_meaning.specs.Apart.{QubitBelow, ResultBelow, StaysBelow, of_end,
 use Rattle.qir_meaning.specs.Moves.{move}
 use Rattle.qir_meaning.specs.Runs.{RunEnd, Returned, Trapped, Cut, Runs, AlwaysRuns, bind_result, end_of, start}
 use Rattle.qir_meaning.specs.State.{State, Env, Move, Next, Enter, Back, Halt, Stuck, Stop, Trap, Ask, bind}
-use Rattle.qir_meaning.specs.code.Simulation.{Whole, Tick, On, Off, gives_back, tick, tick_of, whole_start}
-use Rattle.qir_meaning.specs.code.Steps.{Waiting, Ended, Jam, returned}
+use Rattle.qir_meaning.specs.code.Steps.{Waiting, Ended, Jam, returned, Whole, Tick, On, Off, gives_back, tick, tick_of, whole_start}
 use Rattle.qir_meaning.proofs.Bounds.{one-run}
 use Rattle.qir_meaning.proofs.Bridge.{Leads, IsInvariant, invariant-gives-runs, invariant-always-runs}
 use Rattle.type_check.specs.declared.code.TypeCode.TheVariants as code

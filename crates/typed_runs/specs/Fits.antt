@@ -17,8 +17,7 @@ use Rattle.output_records.specs.declared.record.Record.{Record}
 use Rattle.qir_meaning.specs.Apart.{QubitBelow, ResultBelow, of_end}
 use Rattle.qir_meaning.specs.Runs.{RunEnd}
 use Rattle.qir_meaning.specs.State.{Env, State}
-use Rattle.qir_meaning.specs.code.Simulation.{Whole, Tick, On, Off, tick, whole_start}
-use Rattle.qir_meaning.specs.code.Steps.{Waiting, Ended, Jam}
+use Rattle.qir_meaning.specs.code.Steps.{Waiting, Ended, Jam, Whole, Tick, On, Off, tick, whole_start}
 use Rattle.type_check.specs.Rules.{result_agrees}
 use Rattle.typed_runs.specs.Values.{Bounds, bounds_at, EnvOf}
 

@@ -28,8 +28,7 @@ use Rattle.qir_meaning.specs.declared.end.Ask.TheVariants as ask
 use Rattle.qir_meaning.specs.declared.end.End.TheVariants as end
 use Rattle.qir_meaning.specs.Effects.{first_result}
 use Rattle.qir_meaning.specs.State.{State, Move}
-use Rattle.qir_meaning.specs.code.Simulation.{Whole, Tick, On, Off, tick_of, whole_start}
-use Rattle.qir_meaning.specs.code.Steps.{Ended as Over, Jam}
+use Rattle.qir_meaning.specs.code.Steps.{Ended as Over, Jam, Whole, Tick, On, Off, tick_of, whole_start}
 
 -- the bit that an answered measurement writes
 abbrev pub writes : Option ResultRef → Answer → List (ResultRef × Bool)

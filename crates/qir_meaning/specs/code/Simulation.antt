@@ -1,49 +1,13 @@
 -- One module follows another: a run as a row of whole states, and how two such rows go side by side.
-use Rattle.std.specs.Prelude.{◌≡◌, ℕ, zero, suc, ◌+◌, ◌*◌, ◌≤◌, ◌<◌, Option, Some, List, [], ◌∷◌}
+use Rattle.std.specs.Prelude.{◌≡◌, ℕ, zero, suc, ◌+◌, ◌*◌, ◌≤◌, ◌<◌, List, Some}
 use Rattle.backend_api.specs.declared.operation.Answer.{Answer}
-use Rattle.ir_module.specs.declared.places.Point.{Point}
 use Rattle.ir_module.specs.declared.tree.Module.{Module}
-use Rattle.ir_values.specs.declared.value.Value.{Value}
 use Rattle.ir_module.specs.Entry.{Entry, entry_of}
-use Rattle.qir_meaning.specs.Moves.{move, first_point}
 use Rattle.backend_api.specs.Naming.{Naming, named_events}
 use Rattle.qir_meaning.specs.Naming.{named_end}
-use Rattle.qir_meaning.specs.Runs.{RunEnd, end_of, bind_result, start}
-use Rattle.qir_meaning.specs.State.{Env, State, Move, Next, Enter, Back, Halt, Stuck, next, frame}
-use Rattle.qir_meaning.specs.code.Steps.{Waiting, Outcome, Ended, Jam, returned, exec}
-
--- all that a run has between two instructions
-pub record Whole : Type 0 where
-  pub at : Point
-  pub env : Env
-  pub waits : List Waiting
-  pub state : State
-
--- one instruction leads on to another whole state, or the run is over
-pub data Tick : Type 0 where
-  On : Whole → Tick
-  Off : Outcome → Tick
-
-abbrev pub gives_back : List Waiting → Option Value → State → Tick
-gives_back [] v st = Off (returned v st)
-gives_back (u ∷ us) v st = On (record { at = u.at; env = bind_result u.env u.result v; waits = us; state = st })
-
-abbrev pub tick_of : Whole → Move → Tick
-tick_of w (Next p env st) = On (record { at = p; env = env; waits = w.waits; state = st })
-tick_of w (Enter q env x st) =
-    On (record { at = q; env = env; waits = (record { at = next w.at; env = w.env; result = x }) ∷ w.waits; state = st })
-tick_of w (Back v) = gives_back w.waits v w.state
-tick_of w (Halt stop st) = Off (Ended (end_of stop) st)
-tick_of w Stuck = Off Jam
-
-unfoldable pub tick : Module → Whole → Tick
-tick m w = tick_of w (move m w.at w.env w.state)
-
-abbrev pub run : Module → ℕ → Whole → Outcome
-run m n w = exec m n w.at w.env w.waits w.state
-
-abbrev pub whole_start : Entry → List Answer → Whole
-whole_start e answers = record { at = first_point (record { 0 = e.number }); env = frame e.function []; waits = []; state = start answers }
+use Rattle.qir_meaning.specs.Runs.{RunEnd}
+use Rattle.qir_meaning.specs.State.{State}
+use Rattle.qir_meaning.specs.code.Steps.{Whole, Tick, On, Off, Ended, Jam, tick, whole_start}
 
 -- l goes from v to u in j steps
 abbrev pub GoesBy : Module → ℕ → Whole → Whole → Type 0

@@ -24,32 +24,54 @@ pub data Outcome : Type 0 where
   Ended : RunEnd → State → Outcome
   Jam : Outcome
 
-abbrev pub Going : Type 0
-Going = Point → Env → List Waiting → State → Outcome
-
 abbrev pub returned : Option Value → State → Outcome
 returned None st = Ended (Returned (pos 0)) st
 returned (Some (value.Int i)) st = Ended (Returned (signed i)) st
 returned (Some v) st = Jam
 
-abbrev pub resume : Going → List Waiting → Option Value → State → Outcome
-resume go [] v st = returned v st
-resume go (w ∷ ws) v st = go w.at (bind_result w.env w.result v) ws st
+-- all that a run has between two instructions
+pub record Whole : Type 0 where
+  pub at : Point
+  pub env : Env
+  pub waits : List Waiting
+  pub state : State
 
-abbrev pub turn : Going → Point → Env → List Waiting → State → Move → Outcome
-turn go p env ws st (Next p' env' st') = go p' env' ws st'
-turn go p env ws st (Enter q env' x st') = go q env' ((record { at = next p; env = env; result = x }) ∷ ws) st'
-turn go p env ws st (Back v) = resume go ws v st
-turn go p env ws st (Halt stop st') = Ended (end_of stop) st'
-turn go p env ws st Stuck = Jam
+-- one instruction leads on to another whole state, or the run is over
+pub data Tick : Type 0 where
+  On : Whole → Tick
+  Off : Outcome → Tick
 
-unfoldable pub exec : Module → ℕ → Going
-exec m zero p env ws st = Ended Cut st
-exec m (suc n) p env ws st = turn (exec m n) p env ws st (move m p env st)
+abbrev pub gives_back : List Waiting → Option Value → State → Tick
+gives_back [] v st = Off (returned v st)
+gives_back (u ∷ us) v st = On (record { at = u.at; env = bind_result u.env u.result v; waits = us; state = st })
+
+abbrev pub tick_of : Whole → Move → Tick
+tick_of w (Next p env st) = On (record { at = p; env = env; waits = w.waits; state = st })
+tick_of w (Enter q env x st) =
+    On (record { at = q; env = env; waits = (record { at = next w.at; env = w.env; result = x }) ∷ w.waits; state = st })
+tick_of w (Back v) = gives_back w.waits v w.state
+tick_of w (Halt stop st) = Off (Ended (end_of stop) st)
+tick_of w Stuck = Off Jam
+
+unfoldable pub tick : Module → Whole → Tick
+tick m w = tick_of w (move m w.at w.env w.state)
+
+-- what is left to do after an instruction
+abbrev pub goes : (Whole → Outcome) → Tick → Outcome
+goes go (On w) = go w
+goes go (Off o) = o
+
+-- at most n instructions from here on
+unfoldable pub run : Module → ℕ → Whole → Outcome
+run m zero w = Ended Cut w.state
+run m (suc n) w = goes (run m n) (tick m w)
+
+abbrev pub whole_start : Entry → List Answer → Whole
+whole_start e answers = record { at = first_point (record { 0 = e.number }); env = frame e.function []; waits = []; state = start answers }
 
 abbrev run_from : Module → ℕ → List Answer → Option Entry → Outcome
 run_from m n answers None = Jam
-run_from m n answers (Some e) = exec m n (first_point (record { 0 = e.number })) (frame e.function []) [] (start answers)
+run_from m n answers (Some e) = run m n (whole_start e answers)
 
 -- the whole run of a module by steps
 abbrev pub run_by_steps : Module → List Answer → ℕ → Outcome

@@ -5,9 +5,9 @@ use Rattle.machine_frames.specs.Frames.{Leads, whole}
 use Rattle.machine_frames.specs.code.Apt.{performs_apt}
 use Rattle.machine_frames.proofs.Operands.{two-values}
 use Rattle.machine_frames.proofs.frames.Frames.binary.Goals as goal
+use Rattle.qir_meaning.specs.code.Steps.{tick_of}
 use Rattle.qir_meaning.specs.Moves.{with_values}
 use Rattle.qir_meaning.specs.State.{value_of}
-use Rattle.qir_meaning.specs.code.Simulation.{tick_of}
 
 pub returns-in-Int-Int : goal.returns-in-Int-Int
 returns-in-Int-Int c m t st =

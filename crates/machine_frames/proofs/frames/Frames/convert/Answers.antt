@@ -6,9 +6,9 @@ use Rattle.machine_frames.specs.Frames.{Leads, whole}
 use Rattle.machine_frames.specs.code.Apt.{does_apt, performs_apt}
 use Rattle.machine_frames.proofs.Operands.{one-value}
 use Rattle.machine_frames.proofs.frames.Frames.convert.Goals as goal
+use Rattle.qir_meaning.specs.code.Steps.{tick_of}
 use Rattle.qir_meaning.specs.Moves.{with_values}
 use Rattle.qir_meaning.specs.State.{value_of}
-use Rattle.qir_meaning.specs.code.Simulation.{tick_of}
 
 pub returns-in-Int-Int : goal.returns-in-Int-Int
 returns-in-Int-Int c m t st =

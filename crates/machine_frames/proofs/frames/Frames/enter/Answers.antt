@@ -5,8 +5,7 @@ use Rattle.machine_frames.proofs.Stacks.{enter-push}
 use Rattle.machine_frames.proofs.frames.Frames.enter.Goals as goal
 use Rattle.qir_meaning.specs.Moves.{first_point}
 use Rattle.qir_meaning.specs.State.{frame, next}
-use Rattle.qir_meaning.specs.code.Simulation.{Whole, On}
-use Rattle.qir_meaning.specs.code.Steps.{Waiting as Waits}
+use Rattle.qir_meaning.specs.code.Steps.{Waiting as Waits, Whole, On}
 
 pub returns : goal.returns
 returns c st =

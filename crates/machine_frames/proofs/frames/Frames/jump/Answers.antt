@@ -1,8 +1,8 @@
 use Rattle.std.proofs.Common.{◌∙◌, sym, ap}
+use Rattle.qir_meaning.specs.code.Steps.{tick_of}
 use Rattle.machine_frames.specs.Frames.{whole}
 use Rattle.machine_frames.proofs.Jumps.{jump-goes, jump-stuck}
 use Rattle.machine_frames.proofs.frames.Frames.jump.Goals as goal
-use Rattle.qir_meaning.specs.code.Simulation.{tick_of}
 
 pub returns-in_default-2 : goal.returns-in_default-2
 returns-in_default-2 c st =

@@ -1,5 +1,5 @@
 //! A backend that answers given bits and fails once.
-ghost use Rattle.std.specs.Prelude.{◌≡◌, ◌≢◌, ◌↔◌, ◌+◌, ◌^◌, true, [], ◌∷◌, IfOk, IfErr, OnOk, OnErr};
+ghost use Rattle.std.specs.Prelude.{◌≡◌, ◌≢◌, ◌↔◌, ◌≤◌, ◌+◌, ◌^◌, true, [], ◌∷◌, IfOk, IfErr, OnOk, OnErr};
 ghost use Rattle.backend_api.specs.declared.operation.Answer.TheVariants as answer;
 ghost use Rattle.backend_api.specs.Backend.{Answered, Refused, Keeps};
 ghost use Rattle.backend_api.specs.Operations.{IsGate, IsMeasurement};
@@ -7,9 +7,7 @@ ghost use Rattle.ir_values.specs.Counts.{one_more};
 ghost use Rattle.failing_backend.specs.Flaky.{seen, told_fits, fails_next, counted_after, Fails};
 
 use backend_api::{Backend, Event, Op, Stop, Turned};
-use ir_values::Memory;
 use scripted_backend::Script;
-use std::alloc::Global;
 use std::marker::Model;
 
 /// A backend that does every operation and answers measurements with given bits, as a [`Script`], but fails at one
@@ -22,37 +20,29 @@ use std::marker::Model;
 #[derive(Debug, Drop)]
 pub struct Flaky {
     inner: Script,
-    left: usize,
     fails_at: u64,
     counted: u64,
 }
 
 impl Model for Flaky {
-    ghost use Rattle.std.specs.Prelude.{◌≡◌, length};
     ghost use Rattle.failing_backend.specs.Flaky.{FlakyState};
 
     ghost Value = { FlakyState };
 
     ghost view = { λ f. record { script = f.inner; fails_at = f.fails_at; counted = f.counted } };
-
-    ghost invariant = { λ f. f.left ≡ length f.inner.left };
 }
 
 impl Flaky {
-    /// No event, no call counted, and all of `bits` left. The call number `fails_at` fails, and none where that is 0.
-    /// [`Memory`] comes where there is none for the bits.
-    pub fn new(alloc: Global, bits: &[bool], fails_at: u64) -> Result<Flaky, Memory>
-        ensures events { IfOk result (λ f. f.script.events ≡ []) }
-        ensures left { IfOk result (λ f. f.script.left ≡ bits.now) }
-        ensures fails_at { IfOk result (λ f. f.fails_at ≡ fails_at) }
-        ensures counted { IfOk result (λ f. f.counted ≡ 0) }
+    /// The script with no call counted. The call number `fails_at` from here on fails, and none where that is 0. It
+    /// takes no memory.
+    pub fn new(inner: Script, fails_at: u64) -> Flaky
+        ensures { result ≡ record { script = inner; fails_at = fails_at; counted = 0 } }
     {
-        Ok(Flaky {
-            inner: Script::new(alloc, bits)?,
-            left: bits.len(),
+        Flaky {
+            inner,
             fails_at,
             counted: 0,
-        })
+        }
     }
 
     /// The operations that it answered, the oldest first.
@@ -71,7 +61,8 @@ impl Flaky {
 
     /// Counts a call.
     fn count(&mut self)
-        ensures { self.new ≡ record self.old { counted = one_more self.old.counted } }
+        ensures counted { self.new ≡ record self.old { counted = one_more self.old.counted } }
+        ensures grown { self.old.counted ≤ self.new.counted }
     {
         self.counted = self.counted.saturating_add(1);
     }
@@ -122,7 +113,7 @@ impl Backend for Flaky {
             self.old.script.left ≡ bit ∷ self.new.script.left) }
         ensures left { OnErr result (self.new.script.left ≡ self.old.script.left) }
     {
-        if self.left > 0 && self.fails_next() {
+        if !self.inner.left().is_empty() && self.fails_next() {
             self.count();
             return Err(Turned {
                 op,
@@ -130,7 +121,6 @@ impl Backend for Flaky {
             });
         }
         let bit = self.inner.measure(op)?;
-        self.left -= 1;
         self.count();
         Ok(bit)
     }

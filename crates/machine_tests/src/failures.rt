@@ -8,6 +8,7 @@ use ir_values::{Memory, Seq};
 use output_lines::{Last, StopName, write_trace};
 use qir_machine::{Ended, run_on};
 use qir_meaning::{Ask, End};
+use scripted_backend::Script;
 use std::alloc::Global;
 use std::process::Abort;
 use std::test::Fail;
@@ -46,7 +47,7 @@ type Row = (u64, &'static str, &'static str, Answer);
 
 fn check(rt: &impl Abort, alloc: Global, row: Row) -> Result<(), Fail> {
     let (fails_at, before, asked_for, answer) = row;
-    let mut backend = Flaky::new(alloc, &[true, true], fails_at)?;
+    let mut backend = Flaky::new(Script::new(alloc, &[true, true])?, fails_at);
     let run = run_pair(alloc, &mut backend)?;
     assert!(rt; run.records.is_empty(), "{fails_at}");
     check_events(rt, alloc, backend.events(), before)?;
@@ -79,7 +80,7 @@ fn a_failing_call_ends_the_run(rt: HostRuntime) -> Result<(), Fail> {
 fn a_run_without_that_call_returns(rt: HostRuntime) -> Result<(), Fail> {
     let alloc = rt.alloc();
     for fails_at in [0, 5] {
-        let mut backend = Flaky::new(alloc, &[true, true], fails_at)?;
+        let mut backend = Flaky::new(Script::new(alloc, &[true, true])?, fails_at);
         let run = run_pair(alloc, &mut backend)?;
         assert_eq!(rt; run.end, End::Returned(0), "{fails_at}");
         assert_eq!(rt; run.records.len(), 3, "{fails_at}");
@@ -93,7 +94,7 @@ fn a_run_without_that_call_returns(rt: HostRuntime) -> Result<(), Fail> {
 #[test]
 fn no_bit_left_comes_before_a_failure(rt: HostRuntime) -> Result<(), Fail> {
     let alloc = rt.alloc();
-    let mut backend = Flaky::new(alloc, &[true], 4)?;
+    let mut backend = Flaky::new(Script::new(alloc, &[true])?, 4);
     let run = run_pair(alloc, &mut backend)?;
     let (_event, why) = asked(alloc, run.end, Answer::Done)?;
     assert_eq!(rt; why, Ask::Empty);

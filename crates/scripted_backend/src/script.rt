@@ -68,6 +68,13 @@ impl Script {
     {
         self.events.as_slice()
     }
+
+    /// The bits that measurements haven't been answered with yet, in order.
+    pub fn left(&self) -> &[bool]
+        ensures { result.now ≡ self.now.left }
+    {
+        &self.bits.as_slice()[self.next..]
+    }
 }
 
 impl Backend for Script {

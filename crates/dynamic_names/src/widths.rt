@@ -1,33 +1,15 @@
 //! How wide Dynamic names are.
 ghost use Rattle.std.specs.Prelude.{◌≡◌, ◌<◌, Some, slice_get};
-ghost use Rattle.fused_parts.specs.Nodes.{frame_widths, type_in, width_of, widths_of};
+ghost use Rattle.fused_parts.specs.Nodes.{frame_widths, widths_of};
 ghost use Rattle.static_steps.specs.Values.{dynamics};
 ghost use Rattle.static_steps.specs.Works.{dynamics_of};
 
 use crate::counting::count;
+use fused_parts::width_in;
 use ir_module::Module;
-use ir_values::{FuncId, LocalId, Ty, Width};
+use ir_values::Width;
 use kept_items::Dyn;
 use static_steps::{Config, Frame};
-
-/// The width of a local name that is an integer; of another it is 1.
-fn width_in(m: &Module, func: FuncId, name: LocalId) -> Width
-    ensures { result ≡ width_of (type_in (slice_get m.now.funcs func.0) name) }
-{
-    let number = func.0 as usize;
-    if number >= m.funcs.len() {
-        return Width::W1;
-    }
-    let function = m.funcs.at(number);
-    let place = name.0 as usize;
-    if place >= function.locals.len() {
-        return Width::W1;
-    }
-    match function.locals.at(place).1 {
-        Ty::Int(width) => width,
-        _ => Width::W1,
-    }
-}
 
 /// The width of Dynamic name number `k` of a frame, counted from 0.
 fn frame_width(m: &Module, frame: &Frame, k: u64) -> Width

@@ -13,3 +13,4 @@ pub use flags::joins;
 pub use layout::Layout;
 pub use numbers::Numbers;
 pub use parts::{Source, parts_of};
+pub use widths::width_in;

@@ -20,8 +20,8 @@ fn width_of(ty: &Ty) -> Width
     }
 }
 
-/// The width of a local name that is an integer.
-fn width_in(m: &Module, func: FuncId, name: LocalId) -> Width
+/// The width of a local name that is an integer; of another, and where there's none, it is 1. It takes no memory.
+pub fn width_in(m: &Module, func: FuncId, name: LocalId) -> Width
     ensures { result ≡ width_of (type_in (slice_get m.now.funcs func.0) name) }
 {
     let number = func.0 as usize;

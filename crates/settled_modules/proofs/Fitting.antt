@@ -7,7 +7,8 @@ use Rattle.lowering_budgets.specs.Laws.{BudgetsCountConfigurations}
 use Rattle.sound_lowering.specs.Laws.{IsPermitted}
 use Rattle.sound_lowering.specs.Programs.{number_of_entry, program_by, source_limit}
 use Rattle.sound_lowering.proofs.Counters.{allocated-below, returned-below}
-use Rattle.sound_lowering.proofs.Good.{RulesHold, fits-profile, good}
+use Rattle.sound_lowering.specs.code.Rules.{RulesHold}
+use Rattle.sound_lowering.proofs.Good.{fits-profile, good}
 use Rattle.sound_lowering.proofs.Keeping.{leads}
 use Rattle.sound_lowering.proofs.Sound.{fits-limit}
 use Rattle.valid_steps.specs.Laws.{StepsKeepConfigurations}

@@ -2,25 +2,16 @@
 //! rests on.
 ghost use Rattle.settled_modules.specs.Laws.{BaseStays, FourTimesServes, LoweredAgain, LoweredAreSources, LoweredFits, SmallStaySources};
 
-use acyclic_parts::laws::jumps_lead_on;
-use base_order::laws::{base_keeps_order, base_permits};
 use live_names::laws::lowered_is_accepted;
 use lowered_sizes::laws::lowered_modules_have_few_instructions;
 use lowering_budgets::laws::budgets_count_configurations;
 use lowering_verdicts::laws::lowering_has_an_answer;
 use numbered_residue::laws::printed_is_numbered;
-use printable_program::laws::lowered_modules_are_printable;
 use repeated_lowering::laws::{base_is_repeated, made_residues_are_repeatable};
 use settled_lowering::laws::base_is_accepted;
+use sound_lowering::laws::rules_hold;
 use typed_residue::laws::printed_is_typed;
 use undecided_parts::laws::made_residues_are_undecided;
-use valid_calls::laws::{calls_agree, measurements_are_named, numbers_are_small};
-use valid_lines::laws::items_are_valid;
-use valid_parts::laws::{constants_hold, jumps_fit, parts_start, scopes_hold, types_hold};
-use valid_residue::laws::{
-    adaptive_permits, cases_differ, handles_are_below, labels_are_below, names_differ,
-    nodes_are_steps,
-};
 use valid_steps::laws::steps_keep_configurations;
 
 /// The lowered program of an admitted module is valid, fits its profile, and requires few numbers.
@@ -28,25 +19,7 @@ pub fn lowered_programs_fit()
     ensures { LoweredFits }
 {
     steps_keep_configurations();
-    nodes_are_steps();
-    items_are_valid();
-    parts_start();
-    jumps_fit();
-    scopes_hold();
-    types_hold();
-    constants_hold();
-    cases_differ();
-    names_differ();
-    labels_are_below();
-    handles_are_below();
-    adaptive_permits();
-    base_permits();
-    base_keeps_order();
-    calls_agree();
-    measurements_are_named();
-    numbers_are_small();
-    jumps_lead_on();
-    lowered_modules_are_printable();
+    rules_hold();
     budgets_count_configurations();
 }
 

@@ -2,7 +2,6 @@
 use Rattle.std.proofs.Common.{◌≡◌, ◌∙◌, ℕ, ◌≤◌, Bool, true, Option, None, Some, List, refl, sym, ap, subst, arith}
 use Rattle.std.specs.Prelude.{◌||◌, not, slice_get}
 use Rattle.std.specs.List.{list_all}
-use Rattle.acyclic_parts.specs.Laws.{JumpsLeadOn}
 use Rattle.admission.proofs.Entries.{entry_at}
 use Rattle.base_order.specs.Laws.{BaseKeepsOrder, BasePermits}
 use Rattle.ir_module.specs.declared.places.Point.{Point}
@@ -21,7 +20,6 @@ use Rattle.kept_items.specs.declared.target.Target.{Target}
 use Rattle.kept_items.specs.declared.target.Target.TheVariants.{Adaptive, Base}
 use Rattle.lowered_program.specs.Residues.{residue_of, shared_exit}
 use Rattle.lowered_runs.specs.Made.{IsMade}
-use Rattle.printable_program.specs.Laws.{LoweredModulesArePrintable}
 use Rattle.printed_residue.specs.Laws.{IsGood}
 use Rattle.profile_rules.specs.Calls.{is_measure, passes}
 use Rattle.profiled_residue.specs.Premises as profile
@@ -35,36 +33,15 @@ use Rattle.fused_parts.specs.Ranks.{part_number}
 use Rattle.unroller.specs.Programs.{IsReached, LeadOn, Program, step_of}
 use Rattle.valid_calls.specs.Laws as calls
 use Rattle.valid_calls.specs.Laws.{CallsAgree, MeasurementsAreNamed, NumbersAreSmall}
-use Rattle.valid_lines.specs.Laws.{IsStepOf, ItemsAreValid}
-use Rattle.valid_parts.specs.Laws.{ConstantsHold, IsMadeFrom, JumpsFit, PartsStart, ScopesHold, TypesHold}
+use Rattle.valid_lines.specs.Laws.{IsStepOf}
+use Rattle.valid_parts.specs.Laws.{IsMadeFrom}
 use Rattle.valid_residue.specs.Laws.{AdaptivePermits, CasesDiffer, HandlesAreBelow, LabelsAreBelow, NamesDiffer, NodesAreSteps}
 use Rattle.valid_residue.specs.Programs.{IsLowered, IsSmall}
+use Rattle.sound_lowering.specs.code.Rules.{RulesHold}
 use Rattle.sound_lowering.specs.Laws.{HasRoom, IsPermitted}
 use Rattle.sound_lowering.specs.Programs.{number_of_entry, program_by, source_limit}
 use Rattle.sound_lowering.proofs.Counters.{allocated-below, qubits-below, results-below, returned-below}
 use Rattle.sound_lowering.proofs.Shared.{is-made}
-
--- the rules of a valid lowered program, one by one
-pub record RulesHold : Type 0 where
-  pub nodes : NodesAreSteps
-  pub items : ItemsAreValid
-  pub start : PartsStart
-  pub jumps : JumpsFit
-  pub scopes : ScopesHold
-  pub types : TypesHold
-  pub constants : ConstantsHold
-  pub cases : CasesDiffer
-  pub names : NamesDiffer
-  pub labels : LabelsAreBelow
-  pub handles : HandlesAreBelow
-  pub adaptive : AdaptivePermits
-  pub base : BasePermits
-  pub order : BaseKeepsOrder
-  pub agree : CallsAgree
-  pub measured : MeasurementsAreNamed
-  pub numbers : NumbersAreSmall
-  pub onward : JumpsLeadOn
-  pub prints : LoweredModulesArePrintable
 
 -- ---- two tests of measurements are one
 

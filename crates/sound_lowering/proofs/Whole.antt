@@ -4,7 +4,8 @@ use Rattle.lowered_runs.specs.Laws.{IsAdmitted}
 use Rattle.valid_steps.specs.Laws.{StepsKeepConfigurations}
 use Rattle.sound_lowering.specs.Laws.{LoweredIsSound, LoweredIsValid}
 use Rattle.sound_lowering.specs.Programs.{number_of_entry, program_by, source_limit}
-use Rattle.sound_lowering.proofs.Good.{RulesHold, fits-profile, good, made, prints, valid}
+use Rattle.sound_lowering.specs.code.Rules.{RulesHold}
+use Rattle.sound_lowering.proofs.Good.{fits-profile, good, made, prints, valid}
 use Rattle.sound_lowering.proofs.Keeping.{leads}
 use Rattle.sound_lowering.proofs.Sound.{AreProved, sound}
 

@@ -1,3 +1,4 @@
 pub mod Programs
 pub mod Sound
 pub mod Laws
+pub mod code

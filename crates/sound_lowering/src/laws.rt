@@ -1,5 +1,6 @@
 //! Laws of lowering. What each function ensures is the law; its body only cites the laws that it rests on.
 ghost use Rattle.sound_lowering.specs.Laws.{LoweredIsSound, LoweredIsValid};
+ghost use Rattle.sound_lowering.specs.code.Rules.{RulesHold};
 
 use acyclic_parts::laws::jumps_lead_on;
 use base_order::laws::{base_keeps_order, base_permits};
@@ -19,11 +20,10 @@ use valid_residue::laws::{
 };
 use valid_steps::laws::steps_keep_configurations;
 
-/// The lowered program of an admitted module is valid for its target.
-pub fn lowered_programs_are_valid()
-    ensures { LoweredIsValid }
+/// The rules of a valid lowered program, one by one.
+pub fn rules_hold()
+    ensures { RulesHold }
 {
-    steps_keep_configurations();
     nodes_are_steps();
     items_are_valid();
     parts_start();
@@ -45,30 +45,20 @@ pub fn lowered_programs_are_valid()
     lowered_modules_are_printable();
 }
 
+/// The lowered program of an admitted module is valid for its target.
+pub fn lowered_programs_are_valid()
+    ensures { LoweredIsValid }
+{
+    steps_keep_configurations();
+    rules_hold();
+}
+
 /// The module of it passes the profile, and behaves as the source does under one injective naming.
 pub fn lowered_modules_are_sound()
     ensures { LoweredIsSound }
 {
     steps_keep_configurations();
-    nodes_are_steps();
-    items_are_valid();
-    parts_start();
-    jumps_fit();
-    scopes_hold();
-    types_hold();
-    constants_hold();
-    cases_differ();
-    names_differ();
-    labels_are_below();
-    handles_are_below();
-    adaptive_permits();
-    base_permits();
-    base_keeps_order();
-    calls_agree();
-    measurements_are_named();
-    numbers_are_small();
-    jumps_lead_on();
-    lowered_modules_are_printable();
+    rules_hold();
     adaptive_lowering_keeps_behaviour();
     base_lowering_keeps_behaviour();
     printed_is_numbered();

@@ -23,12 +23,15 @@ use Rattle.sound_lowering.specs.Laws.{HasRoom, IsPermitted, LoweredIsSound, Lowe
 use Rattle.sound_lowering.specs.Sound.{IsSound}
 use Rattle.sound_lowering.specs.Programs.{IsNotLowered, number_of_entry, program_by, source_limit}
 use Rattle.step_parts.specs.Lives.{flow_lives, lives}
+use Rattle.fused_form.specs.Fused.{AreFused}
+use Rattle.fused_form.specs.Laws.{LoweredPartsAreFused}
 use Rattle.told_liveness.specs.Tests.{IsLiveTest}
 use Rattle.type_check.specs.Required.{required_qubits, required_results}
 use Rattle.unroller.specs.Programs.{Carries, Program, search_of}
 use Rattle.unroller.specs.declared.exploration.LowerStop.{LowerStop}
 use Rattle.unroller.specs.declared.exploration.LowerStop.TheVariants.{Refused, Memory}
 use Rattle.unroller.specs.Refusals.{IfRefused, IsRefused}
+use Rattle.valid_residue.specs.Programs.{IsLowered}
 use Rattle.qubit_lowering.specs.Kept.{IsKept}
 use Rattle.qubit_lowering.specs.Lowered.{IsLoweredFrom}
 
@@ -62,17 +65,40 @@ module _ (c : CheckedModule) (t : Target) (budget : ℕ) (is_admitted : IsAdmitt
   test : IsLiveTest c.tree (lives c.flows)
   test = subst (IsLiveTest c.tree) (same-live c) live
 
-  module _ (small : budget ≤ 1000000) (r : Residue) (count : ℕ) (h : IsLoweredFrom c t budget r count) where
+  module _ (r : Residue) (count : ℕ) (h : IsLoweredFrom c t budget r count) where
     is-residue : r ≡ lowered_residue c.tree t (lives c.flows) h.residue.entry h.nodes
     is-residue = h.residue.residue ∙ ap (λ p. residue_of p h.residue.entry.function h.nodes) (same-program c t)
 
-    permitted : IsPermitted c.tree t budget (lives c.flows) h.residue.entry h.nodes
-    permitted = record {
+    explored : Explored (search_of (program_by c.tree t (lives c.flows)) budget) (Carries (program_by c.tree t (lives c.flows))) h.nodes
+    explored = subst (λ p. Explored (search_of p budget) (Carries p) h.nodes) (same-program c t) h.explored
+
+    made : IsLowered (program_by c.tree t (lives c.flows)) h.nodes r
+    made = record {
+      limit = source_limit;
+      found_entry = h.residue.entry;
+      faultless = record {
+        numbered = is_admitted.numbered;
+        typed = is_admitted.typed;
+        is_entry = h.residue.is_entry;
+        entry = ap number_of_entry h.residue.is_entry;
+        qubits = refl;
+        results = refl;
+      };
+      budget = budget;
+      explored = explored;
+      made = is-residue;
+    }
+
+    pub fused : LoweredPartsAreFused → AreFused r.parts
+    fused law = law (program_by c.tree t (lives c.flows)) h.nodes r made
+
+    permitted : budget ≤ 1000000 → IsPermitted c.tree t budget (lives c.flows) h.residue.entry h.nodes
+    permitted small = record {
       numbered = is_admitted.numbered;
       typed = is_admitted.typed;
       is_entry = h.residue.is_entry;
       is_test = test;
-      explored = subst (λ p. Explored (search_of p budget) (Carries p) h.nodes) (same-program c t) h.explored;
+      explored = explored;
       within = h.within;
       small = small;
     }
@@ -80,11 +106,11 @@ module _ (c : CheckedModule) (t : Target) (budget : ℕ) (is_admitted : IsAdmitt
     room : HasRoom c.tree h.nodes (lowered_residue c.tree t (lives c.flows) h.residue.entry h.nodes)
     room = subst (HasRoom c.tree h.nodes) is-residue (record { values = h.few_values; parameters = h.few_parameters; codes = h.codes })
 
-    pub valid : LoweredIsValid → Valid r t
-    valid law = subst (λ r. Valid r t) (sym is-residue) (law c.tree t budget (lives c.flows) h.residue.entry h.nodes permitted room)
+    pub valid : LoweredIsValid → budget ≤ 1000000 → Valid r t
+    valid law small = subst (λ r. Valid r t) (sym is-residue) (law c.tree t budget (lives c.flows) h.residue.entry h.nodes (permitted small) room)
 
-    pub kept : LoweredIsSound → (l : Module) → l ≡ printed r t → IsKept c.tree t budget l
-    kept law l is =
+    pub kept : LoweredIsSound → budget ≤ 1000000 → (l : Module) → l ≡ printed r t → IsKept c.tree t budget l
+    kept law small l is =
         let same : l ≡ printed (lowered_residue c.tree t (lives c.flows) h.residue.entry h.nodes) t = is ∙ ap (λ r. printed r t) is-residue in
         record {
           lowered = record {
@@ -93,10 +119,10 @@ module _ (c : CheckedModule) (t : Target) (budget : ℕ) (is_admitted : IsAdmitt
             entry = h.residue.entry;
             is_entry = h.residue.is_entry;
             nodes = h.nodes;
-            explored = permitted.explored;
+            explored = explored;
             is = same;
           };
-          sound = subst (λ l. IsSound c.tree t budget h.nodes l) (sym same) (law c.tree t budget (lives c.flows) h.residue.entry h.nodes permitted room);
+          sound = subst (λ l. IsSound c.tree t budget h.nodes l) (sym same) (law c.tree t budget (lives c.flows) h.residue.entry h.nodes (permitted small) room);
         }
 
   refused : (at : Point) (kind : Kind) → IsRefused (program_of c t) budget at kind → IsNotLowered c.tree t budget at kind

@@ -10,7 +10,7 @@ use ir_module::Module;
 use ir_values::Memory;
 use kept_items::Target;
 use residue_module::to_module;
-use sound_lowering::laws::{lowered_modules_are_sound, lowered_programs_are_valid};
+use sound_lowering::laws::lowered_modules_are_sound;
 use std::alloc::Global;
 use unroller::LowerStop;
 
@@ -29,7 +29,6 @@ pub fn lower(
     ensures lowered { IfOk result (IsKept checked.now.tree target budget) }
     ensures refused { IfErr result (λ stop. IfRefused stop (IsNotLowered checked.now.tree target budget)) }
 {
-    lowered_programs_are_valid();
     lowered_modules_are_sound();
     let _module = checked.module();
     match lower_residue(alloc, checked, target, budget) {

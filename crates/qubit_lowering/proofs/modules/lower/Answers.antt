@@ -1,15 +1,13 @@
-use Rattle.qubit_lowering.proofs.Kept.{if-refused, kept, valid}
+use Rattle.qubit_lowering.proofs.Kept.{if-refused, kept}
 use Rattle.qubit_lowering.proofs.modules.lower.Goals as goal
 
 pub to_module-requires : goal.to_module-requires
-to_module-requires c =
-    valid c.args.checked.now c.args.target c.args.budget c.module-module.ensures.admitted c.module-module.ensures.live c.requires c.in-Ok.residue c.in-Ok.field-0-1
-    c.in-Ok.ensures.lowered c.lowered_programs_are_valid.ensures
+to_module-requires c = c.in-Ok.ensures.valid c.requires
 
 pub returns-in-Ok-to_module-clause-lowered : goal.returns-in-Ok-to_module-clause-lowered
 returns-in-Ok-to_module-clause-lowered c =
-    kept c.args.checked.now c.args.target c.args.budget c.module-module.ensures.admitted c.module-module.ensures.live c.requires c.in-Ok.residue c.in-Ok.field-0-1
-    c.in-Ok.ensures.lowered c.lowered_modules_are_sound.ensures c.in-Ok-to_module.module c.in-Ok-to_module.ensures
+    kept c.args.checked.now c.args.target c.args.budget c.module-module.ensures.admitted c.module-module.ensures.live c.in-Ok.residue c.in-Ok.field-0-1
+    c.in-Ok.ensures.lowered c.lowered_modules_are_sound.ensures c.requires c.in-Ok-to_module.module c.in-Ok-to_module.ensures
 
 pub returns-clause-refused : goal.returns-clause-refused
 returns-clause-refused c =

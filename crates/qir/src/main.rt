@@ -8,7 +8,7 @@ ghost use Rattle.std.specs.Vec.Iter.{into_iter_items};
 ghost use Rattle.ir_values.specs.Counts.{Rose};
 ghost use Rattle.qir_cli.specs.Commands.{command_of, texts_of};
 ghost use Rattle.qir_cli.specs.Headline.{WritesKept};
-ghost use Rattle.qir_cli.specs.Outcomes.{Answered, PartlyAnswered, IsAnswered};
+ghost use Rattle.qir_cli.specs.Outcomes.{Answered, PartlyAnswered, IsAnswered, WritesLines};
 ghost use Rattle.qir_cli.specs.Statuses.{number_of};
 
 use qir_cli::{Status, qir};
@@ -40,6 +40,9 @@ fn run<S: Source, K: Sink>(
         (K.taken out.old) (K.taken out.new) result) }
     ensures partly_answered { IfOk args (λ args. result ≡ Status.WriteFault
         → PartlyAnswered (texts_of (drop 1 (into_iter_items args))) (S.left input.old)
+        (K.taken out.old) (K.taken out.new)) }
+    ensures whole_lines { IfOk args (λ args. result ≡ Status.Memory
+        → WritesLines (texts_of (drop 1 (into_iter_items args))) (S.left input.old)
         (K.taken out.old) (K.taken out.new)) }
     ensures kept { IfOk args (λ args. result ≡ Status.Done
         → WritesKept (texts_of (drop 1 (into_iter_items args))) (S.left input.old)

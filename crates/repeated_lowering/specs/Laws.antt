@@ -35,7 +35,8 @@ pub record IsRepeatable (r : Residue) (limit : ℕ) : Type 0 where
   pub limited : FitsLimit r limit
   pub named : instructions_named r ≡ true
   -- a known code that is returned is one of 64 bits
-  pub code : (p : Part) (i : IntValue) → slice_get r.parts 0 ≡ Some p → p.tail ≡ tail.Return (Known (value.Int i)) → modulo W64 (signed i) ≡ i
+  pub code : (p : Part) (i : IntValue)
+      → slice_get r.parts 0 ≡ Some p → p.tail ≡ tail.Return (Known (value.Int i)) → modulo W64 (signed i) ≡ i
 
 -- The program is the printed module with the numbers that this requires, and these are its configurations. The lowered program that is
 -- made of them is printed as the same module.

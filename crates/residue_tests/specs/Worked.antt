@@ -81,7 +81,8 @@ base = record {
 abbrev pub first : Part
 first = record {
   params = [];
-  lines = operation measurement (qubit 0 ∷ measured 0 ∷ []) ∷ line.Item (item.Equal (dyn 7) (value.Measured 0) value.One) ∷ line.Freed 0 ∷ [];
+  lines = operation measurement (qubit 0 ∷ measured 0 ∷ [])
+      ∷ line.Item (item.Equal (dyn 7) (value.Measured 0) value.One) ∷ line.Freed 0 ∷ [];
   tail = tail.Branch (Dynamic (dyn 7)) (jump 1 []) (jump 2 (int 5 ∷ []));
 }
 

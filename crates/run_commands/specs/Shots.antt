@@ -42,8 +42,8 @@ abbrev pub run_lines : Schema → Module → Function → List Shot → List (Li
 run_lines schema m entry shots = head_lines schema ++ flat_map (told_shot schema m entry) shots
 
 -- the lines of shots were written, as far as it went, and the answer says whether all returned
-pub record TellsShots (bs : List Backend) (m : Module) (n : ℕ) (lines : List Shot → List (List ℕ)) (before now : Option (List ℕ)) (faults faults' : ℕ)
-    (result : Result Bool ShotStop) : Type 0 where
+pub record TellsShots (bs : List Backend) (m : Module) (n : ℕ) (lines : List Shot → List (List ℕ))
+    (before now : Option (List ℕ)) (faults faults' : ℕ) (result : Result Bool ShotStop) : Type 0 where
   pub shots : List Shot
   pub are : AreShots bs m n shots
   pub written : Writes (lines shots) before now faults faults' result

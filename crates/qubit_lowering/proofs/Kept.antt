@@ -1,5 +1,5 @@
 -- From what the code explores to what lowering answers of the module alone.
-use Rattle.std.proofs.Common.{◌≡◌, ◌∙◌, ℕ, ◌≤◌, Bool, false, Option, None, Some, refl, sym, ap, subst}
+use Rattle.std.proofs.Common.{◌≡◌, ◌∙◌, ℕ, ◌≤◌, Option, None, Some, refl, sym, ap, subst}
 use Rattle.std.specs.Prelude.{slice_get}
 use Rattle.admission.specs.Admitted.{CheckedModule, IsAdmitted}
 use Rattle.admission.specs.Live.{flow_answer, live_in}
@@ -17,7 +17,6 @@ use Rattle.name_flow.specs.declared.flow.Flow.{Flow}
 use Rattle.path_search.specs.Explored.{Explored}
 use Rattle.residue.specs.declared.parts.Residue.{Residue}
 use Rattle.residue.specs.Printed.{printed}
-use Rattle.residue.specs.Scopes.{gives_of}
 use Rattle.residue.specs.Valid.{Valid}
 use Rattle.sound_lowering.specs.Laws.{HasRoom, IsPermitted, LoweredIsSound, LoweredIsValid, lowered_residue}
 use Rattle.sound_lowering.specs.Sound.{IsSound}
@@ -27,12 +26,12 @@ use Rattle.fused_form.specs.Fused.{AreFused}
 use Rattle.fused_form.specs.Laws.{LoweredPartsAreFused}
 use Rattle.told_liveness.specs.Tests.{IsLiveTest}
 use Rattle.type_check.specs.Required.{required_qubits, required_results}
-use Rattle.unroller.specs.Programs.{Carries, Program, search_of}
+use Rattle.unroller.specs.Programs.{Carries, search_of}
 use Rattle.unroller.specs.declared.exploration.LowerStop.{LowerStop}
 use Rattle.unroller.specs.declared.exploration.LowerStop.TheVariants.{Refused, Memory}
 use Rattle.unroller.specs.Refusals.{IfRefused, IsRefused}
 use Rattle.valid_residue.specs.Programs.{IsLowered}
-use Rattle.qubit_lowering.specs.Kept.{IsKept}
+use Rattle.qubit_lowering.specs.Kept.{IsCounted, IsKept}
 use Rattle.qubit_lowering.specs.Lowered.{IsLoweredFrom}
 
 -- ---- the program of a checked module is that of its module, with the test that its flows are
@@ -109,7 +108,7 @@ module _ (c : CheckedModule) (t : Target) (budget : ℕ) (is_admitted : IsAdmitt
     pub valid : LoweredIsValid → budget ≤ 1000000 → Valid r t
     valid law small = subst (λ r. Valid r t) (sym is-residue) (law c.tree t budget (lives c.flows) h.residue.entry h.nodes (permitted small) room)
 
-    pub kept : LoweredIsSound → budget ≤ 1000000 → (l : Module) → l ≡ printed r t → IsKept c.tree t budget l
+    kept : LoweredIsSound → budget ≤ 1000000 → (l : Module) → l ≡ printed r t → IsKept c.tree t budget l
     kept law small l is =
         let same : l ≡ printed (lowered_residue c.tree t (lives c.flows) h.residue.entry h.nodes) t = is ∙ ap (λ r. printed r t) is-residue in
         record {
@@ -124,6 +123,10 @@ module _ (c : CheckedModule) (t : Target) (budget : ℕ) (is_admitted : IsAdmitt
           };
           sound = subst (λ l. IsSound c.tree t budget h.nodes l) (sym same) (law c.tree t budget (lives c.flows) h.residue.entry h.nodes (permitted small) room);
         }
+
+    pub counted : LoweredIsSound → budget ≤ 1000000 → (l : Module) → l ≡ printed r t → IsCounted c.tree t budget l count
+    unfolding kept
+    counted law small l is = record { kept = kept law small l is; number = h.number }
 
   refused : (at : Point) (kind : Kind) → IsRefused (program_of c t) budget at kind → IsNotLowered c.tree t budget at kind
   refused at kind h = record { live = lives c.flows; is_test = test; refused = subst (λ p. IsRefused p budget at kind) (same-program c t) h }

@@ -7,4 +7,4 @@ mod modules;
 mod sources;
 
 pub use lowering::lower_residue;
-pub use modules::lower;
+pub use modules::{lower, lower_counted};

@@ -9,8 +9,7 @@ mod expected;
 mod faults;
 #[cfg(test)]
 mod forms;
-#[cfg(test)]
-mod given;
+pub mod given;
 #[cfg(test)]
 mod lowered_texts;
 #[cfg(test)]

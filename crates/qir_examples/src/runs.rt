@@ -2,8 +2,8 @@
 use crate::forms::Program;
 use crate::given::{Ports, answer, bytes, run};
 use crate::texts::{
-    BELL, CODE_THREE, DEFINED_ON_ONE_WAY, EQUAL_RESULTS, READ_BEFORE, SUM_OF_A_RESULT,
-    TELEPORTATION, UNSET_RECORD, USE_AFTER_RELEASE,
+    BELL, DEFINED_ON_ONE_WAY, EQUAL_RESULTS, ONE_GATE, READ_BEFORE, SUM_OF_A_RESULT, TELEPORTATION,
+    UNSET_RECORD, USE_AFTER_RELEASE,
 };
 use qir_cli::Status;
 use std::test::Fail;
@@ -268,7 +268,7 @@ END\t0
 ",
         ),
         (
-            CODE_THREE,
+            ONE_GATE,
             "trace bits 10",
             Status::Stopped,
             b"STOP\tUnsupported\n",

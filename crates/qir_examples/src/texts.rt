@@ -376,6 +376,15 @@ d:
 ",
 };
 
+/// A gate alone.
+pub const ONE_GATE: Program<'static> = Program {
+    qubits: 1,
+    results: 0,
+    body: b"  call void @__quantum__qis__h__body(%Qubit* null)
+  ret i64 0
+",
+};
+
 /// A code that isn't 0.
 pub const CODE_THREE: Program<'static> = Program {
     qubits: 1,

@@ -42,7 +42,7 @@ lack-cut : (b : Backend) (es : List Event) (op : Op) (why : StopName) → Lacks 
 lack-cut (Script bits) es op why l q = let e : why ≡ stop.Empty = l.2 in cc
 lack-cut Bits es op why l q = let e : why ≡ stop.Unsupported = l.1 in cc
 
-over-last : (b : Backend) (es : List Event) (e : RunEnd) (last : Last) → e ≢ Cut → TellsEnd b es e last → last ≢ Stop stop.Cut
+pub over-last : (b : Backend) (es : List Event) (e : RunEnd) (last : Last) → e ≢ Cut → TellsEnd b es e last → last ≢ Stop stop.Cut
 over-last b es (Returned code) last not t q = cc
 over-last b es (Trapped why) last not t q = cc
 over-last b es (Asks op) last not t q = let e : Stop t.0 ≡ Stop stop.Cut = sym t.2 ∙ q in lack-cut b es op t.0 t.1 (cc)

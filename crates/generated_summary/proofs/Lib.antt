@@ -1,3 +1,5 @@
+mod Alike
+mod Exist
+mod One
 mod Played
-mod Reached
 mod Summed

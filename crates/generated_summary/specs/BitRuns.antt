@@ -25,5 +25,5 @@ pub record BitRun (m : Module) (n : ℕ) : Type 0 where
 abbrev pub AreSame : Naming → (es es' : List Event) (rs rs' : List Record) (e e' : RunEnd) → Type 0
 AreSame N es es' rs rs' e e' = (named_events N es ≡ es') × (rs ≡ rs') × (named_end N e ≡ e')
 
-abbrev pub DoTheSame : {m l : Module} {n : ℕ} → Naming → BitRun m n → BitRun l n → Type 0
+abbrev pub DoTheSame : {m l : Module} {n k : ℕ} → Naming → BitRun m n → BitRun l k → Type 0
 DoTheSame N x y = AreSame N x.shot.events y.shot.events x.shot.records y.shot.records x.is_shot.end y.is_shot.end

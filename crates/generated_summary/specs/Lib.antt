@@ -1,5 +1,6 @@
 pub mod BitRuns
 pub mod Summaries
 pub mod Lines
-pub mod Generating
+pub mod Alike
+pub mod Laws
 pub mod code

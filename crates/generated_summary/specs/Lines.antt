@@ -1,7 +1,9 @@
 -- The lines of a summary.
-use Rattle.std.specs.Prelude.{ℕ, Bool, List, ◌++◌, codes, decimal}
+use Rattle.std.specs.Prelude.{◌≡◌, ℕ, Bool, List, ◌++◌, codes, decimal}
 use Rattle.output_lines.specs.Fields.{word}
 use Rattle.generated_summary.specs.declared.summary.Summary.{Summary}
+use Rattle.generated_summary.specs.Summaries.{IsSummary}
+use Rattle.ir_module.specs.declared.tree.Module.{Module}
 
 -- a line with a number in its one field
 abbrev pub number_line : List ℕ → ℕ → List ℕ
@@ -20,3 +22,9 @@ summary_text turns s =
     ++ number_line (codes "RECORDS\t") s.records
     ++ number_line (codes "BYTES\t") s.bytes
     ++ same_line s.same
+
+-- the text has the lines of the module's summary
+pub record TellsSummary (turns : ℕ) (m : Module) (text : List ℕ) : Type 0 where
+  pub summary : Summary
+  pub is_summary : IsSummary m summary
+  pub text_is : text ≡ summary_text turns summary

@@ -1,38 +1,37 @@
--- The summary of a module: what its lowering and its runs come to.
-use Rattle.std.specs.Prelude.{◌≡◌, ◌↔◌, ℕ, Bool, IsTrue, List, length}
-use Rattle.fused_parts.specs.Nodes.{Node}
-use Rattle.generated_summary.specs.BitRuns.{BitRun, DoTheSame}
+-- The summary of a module: what its lowering and its run over classical bits come to.
+use Rattle.std.specs.Prelude.{◌≡◌, ℕ, true, false, length}
+use Rattle.generated_summary.specs.BitRuns.{BitRun}
 use Rattle.generated_summary.specs.declared.summary.Summary.{Summary}
-use Rattle.ir_module.specs.declared.places.Point.{Point}
 use Rattle.ir_module.specs.declared.tree.Module.{Module}
 use Rattle.ir_printer.specs.Canonical.{canonical}
-use Rattle.ir_values.specs.declared.ids.LocalId.{LocalId}
 use Rattle.kept_items.specs.declared.target.Target.{Target}
-use Rattle.path_search.specs.Explored.{Explored}
-use Rattle.qubit_lowering.specs.Kept.{IsKept}
-use Rattle.sound_lowering.specs.Programs.{naming_of, program_by}
-use Rattle.told_liveness.specs.Tests.{IsLiveTest}
-use Rattle.unroller.specs.Programs.{Carries, search_of}
+use Rattle.kept_items.specs.declared.target.Target.TheVariants as target
+use Rattle.sound_lowering.specs.Programs.{IsLowered}
 
--- constant evaluation of the module reaches so many configurations, all permitted within the budget
-pub record Reaches (m : Module) (t : Target) (budget count : ℕ) : Type 0 where
-  pub live : Point → LocalId → Bool
-  pub is_test : IsLiveTest m live
-  pub nodes : List Node
-  pub explored : Explored (search_of (program_by m t live) budget) (Carries (program_by m t live)) nodes
-  pub number : count ≡ length nodes
-
--- The module is lowered for the target within the budget, and both modules are run over classical bits with at most n steps. The numbers
--- are those of the configurations, of the steps, events and records of the module's run, and of the bytes of the lowered module's
--- canonical text; and it says whether the two runs are the same under the naming.
+-- The module has a lowered module for the target within the budget, and a run over classical bits with at most n steps. The numbers are
+-- those of the configurations that constant evaluation reaches, of the steps, events and records of the run, and of the bytes of the
+-- lowered module's canonical text. The lowered module always does the same (`Alike`).
 pub record Sums (m : Module) (t : Target) (budget n : ℕ) (s : Summary) : Type 0 where
   pub lowered : Module
-  pub kept : IsKept m t budget lowered
-  pub reaches : Reaches m t budget s.configurations
-  pub source_run : BitRun m n
-  pub lowered_run : BitRun lowered n
-  pub steps : s.steps ≡ source_run.steps
-  pub events : s.events ≡ length source_run.shot.events
-  pub records : s.records ≡ length source_run.shot.records
+  pub is_lowered : IsLowered m t budget lowered
+  pub run : BitRun m n
+  pub configurations : s.configurations ≡ length is_lowered.nodes
+  pub steps : s.steps ≡ run.steps
+  pub events : s.events ≡ length run.shot.events
+  pub records : s.records ≡ length run.shot.records
   pub bytes : s.bytes ≡ length (canonical lowered)
-  pub same : IsTrue s.same ↔ DoTheSame (naming_of m) source_run lowered_run
+  pub same : s.same ≡ true
+
+-- the Adaptive Profile without capabilities
+abbrev pub plain_adaptive : Target
+plain_adaptive = target.Adaptive (record { ints = false; switch = false; returns = false; loops = false })
+
+abbrev pub most_configurations : ℕ
+most_configurations = 1000000
+
+abbrev pub most_steps : ℕ
+most_steps = 1000000
+
+-- the summary that is told
+abbrev pub IsSummary : Module → Summary → Type 0
+IsSummary m s = Sums m plain_adaptive most_configurations most_steps s

@@ -1,14 +1,12 @@
-//! The summary of a generated program: its text is read, admitted, lowered and run, and so is its lowered module.
+//! The summary of a module that was generated: it is lowered, and both modules are run over classical bits.
 #![tactic(auto)]
 
-mod command;
+pub mod laws;
 mod lines;
-mod lowering;
 mod names;
 mod run;
 mod same;
 mod summary;
 
-pub use command::{GenStop, generate};
-pub use lines::summary_text;
+pub use lines::summary_lines;
 pub use summary::{Summary, summarize};

@@ -1,10 +1,16 @@
 //! The lines of a summary.
-ghost use Rattle.std.specs.Prelude.{◌≡◌, ◌++◌, IfOk, OnOk};
+ghost use Rattle.std.specs.Prelude.{◌≡◌, ◌++◌, IfErr, IfOk, OnOk};
+ghost use Rattle.generated_summary.specs.Alike.{RunAlike};
 ghost use Rattle.generated_summary.specs.Lines as spec;
+ghost use Rattle.generated_summary.specs.Summaries.{most_configurations, plain_adaptive};
+ghost use Rattle.sound_lowering.specs.Programs.{IsNotLowered};
+ghost use Rattle.unroller.specs.Refusals.{IfRefused};
 
-use crate::summary::Summary;
+use crate::summary::{Summary, summarize};
+use admission::Checked;
 use ir_values::{Bytes, Memory, push_decimal};
 use std::alloc::Global;
+use unroller::LowerStop;
 
 /// Adds a line with a number in its one field.
 fn push_line(text: &mut Bytes, name: &[u8], n: u64) -> Result<(), Memory>
@@ -28,7 +34,7 @@ fn same_line(same: bool) -> &'static [u8]
 
 /// The lines of the summary of the program that makes so many turns, as text.
 #[tactic(auto, unfolding(crate::specs::Lines::summary_text))]
-pub fn summary_text(alloc: Global, turns: u32, summary: &Summary) -> Result<Bytes, Memory>
+fn summary_text(alloc: Global, turns: u32, summary: &Summary) -> Result<Bytes, Memory>
     ensures { IfOk result (λ text. text ≡ spec.summary_text turns summary.now) }
 {
     let mut text = Bytes::new(alloc);
@@ -44,4 +50,19 @@ pub fn summary_text(alloc: Global, turns: u32, summary: &Summary) -> Result<Byte
     push_line(&mut text, b"BYTES\t", summary.bytes as u64)?;
     text.extend_from_slice(same_line(summary.same))?;
     Ok(text)
+}
+
+/// The lines of the summary of an admitted module, which was generated for so many turns. [`summarize`] says what else may
+/// come.
+pub fn summary_lines(alloc: Global, checked: &Checked, turns: u32) -> Result<Bytes, LowerStop>
+    ensures told { IfOk result (spec.TellsSummary turns checked.now.tree) }
+    ensures alike { IfOk result (λ _. RunAlike checked.now.tree) }
+    ensures refused { IfErr result (λ stop.
+        IfRefused stop (IsNotLowered checked.now.tree plain_adaptive most_configurations)) }
+{
+    let summary = summarize(alloc, checked)?;
+    match summary_text(alloc, turns, &summary) {
+        Ok(text) => Ok(text),
+        Err(Memory) => Err(LowerStop::Memory),
+    }
 }

@@ -1,27 +1,26 @@
 -- What was read and written, and what becomes of a reply.
-use Rattle.std.proofs.Common.{◌≡◌, ◌∙◌, ℕ, ◌+◌, ◌<◌, List, [], ◌++◌, length, take, refl, ap, sym, subst, inl, inr, arith, append-nil, replicate}
-use Rattle.std.specs.Prelude.{⊤, Option, None, Some, Result, Ok, Err, IfOk, IfSome}
-use Rattle.std.specs.Option.{option_map}
-use Rattle.std.proofs.lemmas.List.{take-append-drop, length-replicate, length-take}
+use Rattle.std.proofs.Common.{◌≡◌, ℕ, List, [], refl, ap, sym, subst, inl, inr, append-nil}
+use Rattle.std.specs.Prelude.{⊤, Option, None, Some, Result, Ok, Err, IfOk}
 use Rattle.ir_module.specs.declared.tree.Module.{Module}
 use Rattle.ir_reader.specs.declared.parsed.Parsed.{Parsed}
 use Rattle.ir_reader.specs.Spelling.{Spells}
 use Rattle.ir_values.specs.Counts.{Rose}
-use Rattle.qir_ports.specs.Known.{GivesTooMany, GivesUpTo, Takes}
-use Rattle.qir_cli.specs.code.Stops.{Becomes, whole, in_part, in_lines, nothing, ByLines, DoesWell, IsReplyOf, Meets, RepliesWell}
+use Rattle.qir_ports.specs.Known.{Takes}
+use Rattle.qir_cli.specs.code.Stops.{Becomes, whole, in_part, in_lines, nothing, ByLines, DoesWell, IsReplyOf, LooksAt, Meets, RepliesWell, Serves, replies, not_read, no_room}
 use Rattle.qir_cli.specs.Headline.{KeepsBy, WritesKept}
 use Rattle.qir_cli.specs.Commands.{command_of}
 use Rattle.qir_cli.specs.declared.command.Command.{Command}
-use Rattle.qir_cli.specs.declared.command.Command.TheVariants.{Print, Check, Lower, Run, Trace}
+use Rattle.qir_cli.specs.declared.command.Command.TheVariants.{Print, Check, Lower, Run, Trace, Gen}
 use Rattle.qir_cli.specs.declared.refusal.Refusal.{Refusal}
 use Rattle.qir_cli.specs.declared.refusal.Stop.{Stop}
 use Rattle.qir_cli.specs.declared.reply.Reply.{Reply}
 use Rattle.qir_cli.specs.declared.status.Status.{Status}
 use Rattle.qir_cli.specs.declared.status.Status.TheVariants.{Done, Refused, BadWords, Stopped, ReadFault, WriteFault, Memory}
 use Rattle.qir_cli.specs.Outcomes.{Answered, HasReply, IsAnswered, IsUnwritten, PartlyAnswered, WritesAtOnce, WritesLines}
-use Rattle.qir_cli.specs.Replies.{ComesTo, DoesAdmitted, limit, Replies, reply_of}
+use Rattle.qir_cli.specs.Replies.{ComesFrom, DoesAdmitted, IsReplyTo, reply_of}
 use Rattle.qir_cli.specs.Stages.{refuses, leads_on}
 use Rattle.qir_cli.proofs.Checked.{checks-answered}
+use Rattle.qir_cli.proofs.Generated.{summarizes-answered}
 use Rattle.qir_cli.proofs.Lowers.{lowers-answered}
 use Rattle.qir_cli.proofs.Replying.{reply-does}
 use Rattle.qir_cli.proofs.Running.{runs-answered, traces-answered}
@@ -33,15 +32,16 @@ does-answered (Check profile) parsed end d = checks-answered profile parsed end 
 does-answered (Lower target budget) parsed end d = lowers-answered target budget parsed end d
 does-answered (Run schema steps backends) parsed end d = runs-answered schema steps backends parsed end d
 does-answered (Trace steps backend) parsed end d = traces-answered steps backend parsed end d
+does-answered (Gen turns) parsed end d = summarizes-answered turns parsed end d
 
-comes-answered : (command : Command) (bytes : List ℕ) (end : Result Reply Refusal) → ComesTo command bytes end → IsAnswered (reply_of end).status
-comes-answered command bytes end (refuses why f) = tt
-comes-answered command bytes end (leads_on text end' f (refuses why g)) = tt
-comes-answered command bytes end (leads_on text end' f (leads_on parsed end'' g (refuses why a))) = tt
-comes-answered command bytes end (leads_on text end' f (leads_on parsed end'' g (leads_on given end''' a does))) = does-answered command given end''' does
+comes-answered : (command : Command) (looked : List ℕ) (end : Result Reply Refusal) → ComesFrom command looked end → IsAnswered (reply_of end).status
+comes-answered command looked end (refuses why f) = tt
+comes-answered command looked end (leads_on text end' f (refuses why g)) = tt
+comes-answered command looked end (leads_on text end' f (leads_on parsed end'' g (refuses why a))) = tt
+comes-answered command looked end (leads_on text end' f (leads_on parsed end'' g (leads_on given end''' a does))) = does-answered command given end''' does
 
-pub replies-answered : (command : Command) (bytes : List ℕ) (reply : Reply) → Replies command bytes reply → IsAnswered reply.status
-replies-answered command bytes reply r = subst (λ r. IsAnswered r.status) (sym r.2) (comes-answered command bytes r.0 r.1)
+pub replies-answered : (command : Command) (looked : List ℕ) (reply : Reply) → IsReplyTo (ComesFrom command looked) reply → IsAnswered reply.status
+replies-answered command looked reply r = subst (λ r. IsAnswered r.status) (sym r.2) (comes-answered command looked r.0 r.1)
 
 pub not_both : (words : List (List ℕ)) (s : Status) → IsAnswered s → IsUnwritten words s → ⊥
 not_both words Done a u = u
@@ -58,8 +58,8 @@ not_fault s a e = subst IsAnswered e a
 pub not_bad : (s : Status) → IsAnswered s → s ≡ BadWords → ⊥
 not_bad s a e = subst IsAnswered e a
 
-pub not_read : (s : Status) → IsAnswered s → s ≡ ReadFault → ⊥
-not_read s a e = subst IsAnswered e a
+pub not_read_fault : (s : Status) → IsAnswered s → s ≡ ReadFault → ⊥
+not_read_fault s a e = subst IsAnswered e a
 
 pub not_memory : (s : Status) → IsAnswered s → s ≡ Memory → ⊥
 not_memory s a e = subst IsAnswered e a
@@ -94,9 +94,9 @@ no-promise m (Ok reply) = λ bytes spells. tt
 no-promise m (Err e) = tt
 
 -- what a status says then
-pub record Sent {K : Type 0} (words : List (List ℕ)) (left : Option (List ℕ)) (taken : K → Option (List ℕ)) (faults : K → ℕ) (k k' : K) (s : Status) : Type 0 where
+pub record Sent {K : Type 0} (words : List (List ℕ)) (left : Option (List ℕ)) (Failed : Type 0) (taken : K → Option (List ℕ)) (faults : K → ℕ) (k k' : K) (s : Status) : Type 0 where
   pub no_bad_words : s ≡ BadWords → ⊥
-  pub no_read_fault : s ≡ ReadFault → ⊥
+  pub failed : s ≡ ReadFault → Failed
   pub counted : s ≡ WriteFault → Rose (faults k) (faults k')
   pub unwritten : IsUnwritten words s → k' ≡ k
   pub answered : IsAnswered s → Answered words left (taken k) (taken k') s
@@ -104,47 +104,12 @@ pub record Sent {K : Type 0} (words : List (List ℕ)) (left : Option (List ℕ)
   pub lines : s ≡ Memory → WritesLines words left (taken k) (taken k')
   pub kept : s ≡ Done → WritesKept words left (taken k) (taken k')
 
-module _ {K : Type 0} (words : List (List ℕ)) (command : Command) (is_command : command_of words ≡ Some command) (left : Option (List ℕ)) (bytes : List ℕ)
-    (input : IfSome left (λ all. all ≡ bytes)) (taken : K → Option (List ℕ)) (faults : K → ℕ) (k k' : K) where
-  abbrev has : (r : Reply) → Replies command bytes r → HasReply words left
-  has r replies = record { command = command; is_command = is_command; bytes = bytes; input = input; reply = r; replies = replies }
-
-  pub sent : (s : Status) → Becomes (ByLines command) (RepliesWell command bytes) taken faults k k' s → Sent words left taken faults k k' s
-  sent s (whole r p t) =
-      let a = replies-answered command bytes r p.0 in
-      record {
-        no_bad_words = not_bad r.status a;
-        no_read_fault = not_read r.status a;
-        counted = λ e. absurd (not_fault r.status a e);
-        unwritten = λ u. absurd (not_both words r.status a u);
-        answered = λ _. record { has = has r p.0; is_status = refl; written = t };
-        partly = λ e. absurd (not_fault r.status a e);
-        lines = λ e. absurd (not_memory r.status a e);
-        kept = λ e. record { command = command; is_command = is_command; bytes = bytes; input = input; text = r.text; written = t; keeps = p.1 e };
-      }
-  sent s (in_part r p count few t rose) = record {
+module _ {K : Type 0} (words : List (List ℕ)) (command : Command) (is_command : command_of words ≡ Some command) (left : Option (List ℕ)) (Failed : Type 0)
+    (taken : K → Option (List ℕ)) (faults : K → ℕ) (k k' : K) where
+  without-memory : k' ≡ k → Sent words left Failed taken faults k k' Memory
+  without-memory same = record {
     no_bad_words = λ e. cc;
-    no_read_fault = λ e. cc;
-    counted = λ e. rose;
-    unwritten = λ u. absurd u;
-    answered = λ a. absurd a;
-    partly = λ e. record { has = has r p.0; count = count; not_all = few; written = t };
-    lines = λ e. cc;
-    kept = λ e. cc;
-  }
-  sent s (in_lines l r p count lines t) = record {
-    no_bad_words = λ e. cc;
-    no_read_fault = λ e. cc;
-    counted = λ e. cc;
-    unwritten = λ u. absurd (l (subst WritesAtOnce is_command u));
-    answered = λ a. absurd a;
-    partly = λ e. cc;
-    lines = λ e. inr (record { has = has r p.0; count = count; whole = lines; written = t });
-    kept = λ e. cc;
-  }
-  sent s (nothing same) = record {
-    no_bad_words = λ e. cc;
-    no_read_fault = λ e. cc;
+    failed = λ e. cc;
     counted = λ e. cc;
     unwritten = λ u. same;
     answered = λ a. absurd a;
@@ -153,15 +118,67 @@ module _ {K : Type 0} (words : List (List ℕ)) (command : Command) (is_command 
     kept = λ e. cc;
   }
 
-long_bytes : (n : ℕ) → (bytes : List ℕ) × (n < length bytes)
-long_bytes n = (replicate (n + 1) 0, subst (λ k. n < k) (sym (length-replicate (n + 1) 0)) (omega arith))
+  without-input : Failed → k' ≡ k → Sent words left Failed taken faults k k' ReadFault
+  without-input failed same = record {
+    no_bad_words = λ e. cc;
+    failed = λ e. failed;
+    counted = λ e. cc;
+    unwritten = λ u. same;
+    answered = λ a. absurd a;
+    partly = λ e. cc;
+    lines = λ e. cc;
+    kept = λ e. cc;
+  }
 
--- some bytes that are too long, which are those that were left where they are told
-pub long_input : (left : Option (List ℕ)) → IfSome left (λ all. limit < length all) → (bytes : List ℕ) × (limit < length bytes) × IfSome left (λ all. all ≡ bytes)
-long_input None long = let some = long_bytes limit in (some.0, some.1, tt)
-long_input (Some all) long = (all, long, refl)
+  module _ (looked : List ℕ) (looks : LooksAt command left looked) where
+    abbrev has-reply : (r : Reply) → IsReplyTo (ComesFrom command looked) r → HasReply words left
+    has-reply r it =
+        record { command = command; is_command = is_command; bytes = looks.bytes; input = looks.input; reply = r; replies = subst (λ z. IsReplyTo (ComesFrom command z) r) looks.is it }
 
-pub GivesUpTo-too_many : (most : ℕ) (before now : Option (List ℕ)) → GivesTooMany most before now → GivesUpTo (most + 1) before now
-GivesUpTo-too_many most None now gives = ([], omega arith, ap (option_map (λ rest. [] ++ rest)) (sym gives.rest))
-GivesUpTo-too_many most (Some all) now gives =
-    (take (most + 1) all, omega (arith, length-take (most + 1) all), ap Some (sym (take-append-drop (most + 1) all)) ∙ sym (ap (option_map (λ rest. take (most + 1) all ++ rest)) gives.rest))
+    pub sent : (s : Status) → Becomes (ByLines command) (RepliesWell command looked) taken faults k k' s → Sent words left Failed taken faults k k' s
+    sent s (whole r p t) =
+        let a = replies-answered command looked r p.0 in
+        record {
+          no_bad_words = not_bad r.status a;
+          failed = λ e. absurd (not_read_fault r.status a e);
+          counted = λ e. absurd (not_fault r.status a e);
+          unwritten = λ u. absurd (not_both words r.status a u);
+          answered = λ _. record { has = has-reply r p.0; is_status = refl; written = t };
+          partly = λ e. absurd (not_fault r.status a e);
+          lines = λ e. absurd (not_memory r.status a e);
+          kept = λ e. record {
+            command = command;
+            is_command = is_command;
+            bytes = looks.bytes;
+            input = looks.input;
+            text = r.text;
+            written = t;
+            keeps = subst (λ z. KeepsBy command z r.text) looks.is (p.1 e);
+          };
+        }
+    sent s (in_part r p count few t rose) = record {
+      no_bad_words = λ e. cc;
+      failed = λ e. cc;
+      counted = λ e. rose;
+      unwritten = λ u. absurd u;
+      answered = λ a. absurd a;
+      partly = λ e. record { has = has-reply r p.0; count = count; not_all = few; written = t };
+      lines = λ e. cc;
+      kept = λ e. cc;
+    }
+    sent s (in_lines l r p count lines t) = record {
+      no_bad_words = λ e. cc;
+      failed = λ e. cc;
+      counted = λ e. cc;
+      unwritten = λ u. absurd (l (subst WritesAtOnce is_command u));
+      answered = λ a. absurd a;
+      partly = λ e. cc;
+      lines = λ e. inr (record { has = has-reply r p.0; count = count; whole = lines; written = t });
+      kept = λ e. cc;
+    }
+    sent s (nothing same) = without-memory same
+
+  pub served : (s : Status) → Serves command left Failed taken faults k k' s → Sent words left Failed taken faults k k' s
+  served s (replies looked status looks becomes) = sent looked looks status becomes
+  served s (not_read failed same) = without-input failed same
+  served s (no_room same) = without-memory same

@@ -1,6 +1,8 @@
 pub mod Admitting
 pub mod Becoming
 pub mod Checked
+pub mod Generated
+pub mod Inputs
 pub mod Lowers
 pub mod Reading
 pub mod Replying

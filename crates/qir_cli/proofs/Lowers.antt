@@ -22,13 +22,20 @@ use Rattle.qir_cli.specs.declared.refusal.Refusal.{Refusal}
 use Rattle.qir_cli.specs.declared.reply.Reply.{Reply}
 use Rattle.qir_cli.specs.declared.status.Status.TheVariants.{Done}
 use Rattle.qir_cli.specs.Headline.{KeepsSource}
-use Rattle.qir_cli.specs.Lowering.{Lowers, RepliesLowered}
+use Rattle.qir_cli.specs.Lowering.{Lowers, RepliesLowered, TellsInstruction}
 use Rattle.qir_cli.specs.Outcomes.{IsAnswered}
 use Rattle.qir_cli.specs.Replies.{reply_of}
 use Rattle.qir_cli.specs.Stages.{AtMostOne, AtLeastOne}
 
-abbrev tells : Parsed → Point → Kind → Refusal
+abbrev pub tells : Parsed → Point → Kind → Refusal
 tells parsed at kind = record { fault = Lower kind; place = place_at parsed (At at) }
+
+-- one instruction decides against it
+pub tells-one : LoweringHasOneAnswer → (t : Target) (budget : ℕ) (parsed : Parsed) (v w : Refusal) → TellsInstruction t budget parsed v → TellsInstruction t budget parsed w
+    → ◌≡◌ {A = Result Reply Refusal} (Err v) (Err w)
+tells-one one t budget parsed v w a b =
+    let e = (one parsed.module t budget).refusal a.at b.at a.kind b.kind a.decides b.decides in
+    ap Err (a.told ∙ ap (λ at. tells parsed at a.kind) e.0 ∙ ap (tells parsed b.at) e.1 ∙ sym b.told)
 
 pub lowers-one : LoweringHasOneAnswer → (t : Target) (budget : ℕ) (parsed : Parsed) → AtMostOne (Lowers t budget parsed)
 lowers-one one t budget parsed (Ok r) (Ok s) a b =
@@ -37,9 +44,7 @@ lowers-one one t budget parsed (Ok r) (Ok s) a b =
     ∙ ap (λ text. Ok (record { status = s.status; text = text })) (a.text ∙ ap canonical l ∙ sym b.text)
 lowers-one one t budget parsed (Ok r) (Err w) a b = absurd ((one parsed.module t budget).not_both a.lowered b.at b.kind a.is_lowered b.decides)
 lowers-one one t budget parsed (Err v) (Ok s) a b = absurd ((one parsed.module t budget).not_both b.lowered a.at a.kind b.is_lowered a.decides)
-lowers-one one t budget parsed (Err v) (Err w) a b =
-    let e = (one parsed.module t budget).refusal a.at b.at a.kind b.kind a.decides b.decides in
-    ap Err (a.told ∙ ap (λ at. tells parsed at a.kind) e.0 ∙ ap (tells parsed b.at) e.1 ∙ sym b.told)
+lowers-one one t budget parsed (Err v) (Err w) a b = tells-one one t budget parsed v w a b
 
 pub lowers-some : LoweringHasAnAnswer → (t : Target) (budget : ℕ) (parsed : Parsed) → Numbered parsed.module → Typed parsed.module source_limit → AtLeastOne (Lowers t budget parsed)
 lowers-some some t budget parsed numbered typed = elim (some parsed.module t budget numbered typed) [

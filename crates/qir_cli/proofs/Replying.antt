@@ -14,6 +14,7 @@ use Rattle.ir_reader.specs.Laws.{OneAnswer}
 use Rattle.ir_reader.proofs.InOrder.{reads-printable}
 use Rattle.ir_tokens.specs.declared.token.Token.{Token}
 use Rattle.ir_reader.specs.Spelling.{Spells}
+use Rattle.generated_summary.specs.Laws.{SummariesAreOne, SummariesExist}
 use Rattle.run_commands.specs.Laws.{RunsAreOne, RunsExist, TracesAreOne, TracesExist}
 use Rattle.admission.specs.Admitted.{greatest_required}
 use Rattle.check_command.specs.Laws.{ReportsAreOne, ReportsExist}
@@ -25,7 +26,7 @@ use Rattle.qir_cli.specs.Admission.{Admits}
 use Rattle.qir_cli.specs.code.AdmittedCode.{AdmitsText}
 use Rattle.qir_cli.specs.code.Stops.{DoesWell, IsReplyOf, KeepsWell, Meets, RepliesWell, stop_of}
 use Rattle.qir_cli.specs.declared.command.Command.{Command}
-use Rattle.qir_cli.specs.declared.command.Command.TheVariants.{Print, Check, Lower, Run, Trace}
+use Rattle.qir_cli.specs.declared.command.Command.TheVariants.{Print, Check, Lower, Run, Trace, Gen}
 use Rattle.qir_cli.specs.declared.refusal.Fault.TheVariants.{TooLong}
 use Rattle.qir_cli.specs.declared.refusal.Refusal.{Refusal}
 use Rattle.qir_cli.specs.declared.refusal.Stop.{Stop}
@@ -36,10 +37,11 @@ use Rattle.qir_cli.specs.Headline.{KeepsBy}
 use Rattle.qir_cli.specs.Laws.{HasOneText, RepliesAreOne, RepliesExist}
 use Rattle.qir_cli.specs.Reading.{Reads}
 use Rattle.qir_cli.specs.Refusals.{at_start}
-use Rattle.qir_cli.specs.Replies.{ComesTo, Does, DoesAdmitted, DoesText, limit, refused, reply_of, within_limit}
+use Rattle.qir_cli.specs.Replies.{ComesFrom, Does, DoesAdmitted, DoesText, limit, refused, reply_of, text_for, within_limit}
 use Rattle.qir_cli.specs.Stages.{Is, Then, refuses, leads_on, AtMostOne, AtLeastOne}
 use Rattle.qir_cli.proofs.Admitting.{admits-one, admits-some}
 use Rattle.qir_cli.proofs.Checked.{checks-one, checks-some}
+use Rattle.qir_cli.proofs.Generated.{generated-bytes, summarizes-one, summarizes-some}
 use Rattle.qir_cli.proofs.Lowers.{lowers-one, lowers-some}
 use Rattle.qir_cli.proofs.Reading.{reads-one, reads-some, refused-misreads}
 use Rattle.qir_cli.proofs.Running.{runs-one, runs-some, traces-one, traces-some}
@@ -68,6 +70,33 @@ module _ (in-order : ReadInOrder) (text : List ℕ) (bytes : are_bytes text ≡ 
 admitted-typed : (parsed given : Parsed) → Admits parsed (Ok given) → Typed given.module greatest_required
 admitted-typed parsed given a = subst (λ (p : Parsed). Typed p.module greatest_required) (sym a.same) a.typed
 
+-- ---- the text that a command looks at
+
+text-bytes : (command : Command) (bytes : List ℕ) → are_bytes bytes ≡ true → are_bytes (text_for command bytes) ≡ true
+text-bytes Print bytes h = h
+text-bytes (Check profile) bytes h = h
+text-bytes (Lower t budget) bytes h = h
+text-bytes (Run schema steps backends) bytes h = h
+text-bytes (Trace steps backend) bytes h = h
+text-bytes (Gen turns) bytes h = generated-bytes turns
+
+-- what a text is that has one reply
+abbrev HasOneFrom : Command → List ℕ → Type 0
+HasOneFrom Print text = Unit {0}
+HasOneFrom (Check profile) text = Unit {0}
+HasOneFrom (Lower t budget) text = Unit {0}
+HasOneFrom (Run schema steps backends) text = are_bytes text ≡ true
+HasOneFrom (Trace steps backend) text = are_bytes text ≡ true
+HasOneFrom (Gen turns) text = are_bytes text ≡ true
+
+one-from : (command : Command) (bytes : List ℕ) → HasOneText command bytes → HasOneFrom command (text_for command bytes)
+one-from Print bytes h = tt
+one-from (Check profile) bytes h = tt
+one-from (Lower t budget) bytes h = tt
+one-from (Run schema steps backends) bytes h = h
+one-from (Trace steps backend) bytes h = h
+one-from (Gen turns) bytes h = generated-bytes turns
+
 -- ---- one reply
 
 -- what is known of a module for a command that has one text
@@ -77,47 +106,53 @@ Known (Check profile) m = Unit {0}
 Known (Lower t budget) m = Unit {0}
 Known (Run schema steps backends) m = Numbered m × Typed m greatest_required
 Known (Trace steps backend) m = Numbered m × Typed m greatest_required
+Known (Gen turns) m = Numbered m × Typed m greatest_required
 
-known : ReadInOrder → (command : Command) (text : List ℕ) → HasOneText command text → length text ≤ limit → (parsed given : Parsed) → Reads text (Ok parsed) → Admits parsed (Ok given)
+known : ReadInOrder → (command : Command) (text : List ℕ) → HasOneFrom command text → length text ≤ limit → (parsed given : Parsed) → Reads text (Ok parsed) → Admits parsed (Ok given)
     → Known command given.module
 known in-order Print text has short parsed given reads a = tt
 known in-order (Check profile) text has short parsed given reads a = tt
 known in-order (Lower t budget) text has short parsed given reads a = tt
 known in-order (Run schema steps backends) text has short parsed given reads a = (admitted-numbered in-order text has short parsed given reads a, admitted-typed parsed given a)
 known in-order (Trace steps backend) text has short parsed given reads a = (admitted-numbered in-order text has short parsed given reads a, admitted-typed parsed given a)
+known in-order (Gen turns) text has short parsed given reads a = (admitted-numbered in-order text has short parsed given reads a, admitted-typed parsed given a)
 
-module _ (one : OneAnswer) (single : HasOneFirstFault) (reports : ReportsAreOne) (lowering : LoweringHasOneAnswer) (in-order : ReadInOrder) (runs : RunsAreOne) (traces : TracesAreOne) where
+module _ (one : OneAnswer) (single : HasOneFirstFault) (reports : ReportsAreOne) (lowering : LoweringHasOneAnswer) (in-order : ReadInOrder) (runs : RunsAreOne) (traces : TracesAreOne)
+    (summaries : SummariesAreOne) where
   does-one : (command : Command) (parsed : Parsed) → Known command parsed.module → AtMostOne (DoesAdmitted command parsed)
   does-one Print parsed _ = is-one _
   does-one (Check profile) parsed _ = checks-one reports profile parsed
   does-one (Lower t budget) parsed _ = lowers-one lowering t budget parsed
   does-one (Run schema steps backends) parsed k = runs-one parsed k.0 k.1 runs schema steps backends
   does-one (Trace steps backend) parsed k = traces-one parsed k.0 k.1 traces steps backend
+  does-one (Gen turns) parsed k = summarizes-one turns parsed k.0 k.1 summaries lowering
 
-  text-one : (command : Command) (text : List ℕ) → HasOneText command text → length text ≤ limit → AtMostOne (DoesText command text)
+  text-one : (command : Command) (text : List ℕ) → HasOneFrom command text → length text ≤ limit → AtMostOne (DoesText command text)
   text-one command text has short =
       then-one (Reads text) (Does command) (reads-one one text)
       (λ parsed reads. then-one (Admits parsed) (DoesAdmitted command) (admits-one single parsed)
       (λ given admits. does-one command given (known in-order command text has short parsed given reads admits)))
 
-  comes-one : (command : Command) (bytes : List ℕ) → HasOneText command bytes → AtMostOne (ComesTo command bytes)
-  comes-one command bytes has =
-      then-one (Is (within_limit bytes)) (DoesText command) (is-one _)
-      (λ text within. let w = within-given bytes text within in
-      text-one command text (subst (HasOneText command) (sym w.0) has) (subst (λ t. length t ≤ limit) (sym w.0) w.1))
+  comes-one : (command : Command) (looked : List ℕ) → HasOneFrom command looked → AtMostOne (ComesFrom command looked)
+  comes-one command looked has =
+      then-one (Is (within_limit looked)) (DoesText command) (is-one _)
+      (λ text within. let w = within-given looked text within in
+      text-one command text (subst (HasOneFrom command) (sym w.0) has) (subst (λ t. length t ≤ limit) (sym w.0) w.1))
 
   pub replies-one : RepliesAreOne
-  replies-one command bytes has r s a b = a.2 ∙ ap reply_of (comes-one command bytes has a.0 b.0 a.1 b.1) ∙ sym b.2
+  replies-one command bytes has r s a b = a.2 ∙ ap reply_of (comes-one command (text_for command bytes) (one-from command bytes has) a.0 b.0 a.1 b.1) ∙ sym b.2
 
 -- ---- some reply
 
-module _ (one : OneAnswer) (judged : TypedOrFaulty) (reports : ReportsExist) (lowering : LoweringHasAnAnswer) (in-order : ReadInOrder) (runs : RunsExist) (traces : TracesExist) where
+module _ (one : OneAnswer) (judged : TypedOrFaulty) (reports : ReportsExist) (lowering : LoweringHasAnAnswer) (in-order : ReadInOrder) (runs : RunsExist) (traces : TracesExist)
+    (summaries : SummariesExist) where
   does-some : (command : Command) (parsed : Parsed) → Numbered parsed.module → Typed parsed.module greatest_required → AtLeastOne (DoesAdmitted command parsed)
   does-some Print parsed numbered typed = is-some _
   does-some (Check profile) parsed numbered typed = checks-some reports profile parsed
   does-some (Lower t budget) parsed numbered typed = lowers-some lowering t budget parsed numbered typed
   does-some (Run schema steps backends) parsed numbered typed = runs-some parsed numbered typed runs schema steps backends
   does-some (Trace steps backend) parsed numbered typed = traces-some parsed numbered typed traces steps backend
+  does-some (Gen turns) parsed numbered typed = summarizes-some turns parsed numbered typed summaries lowering
 
   text-some : (command : Command) (text : List ℕ) → are_bytes text ≡ true → length text ≤ limit → AtLeastOne (DoesText command text)
   text-some command text bytes short =
@@ -125,13 +160,13 @@ module _ (one : OneAnswer) (judged : TypedOrFaulty) (reports : ReportsExist) (lo
       (λ parsed reads. then-some (Admits parsed) (DoesAdmitted command) (admits-some judged parsed)
       (λ given admits. does-some command given (admitted-numbered in-order text bytes short parsed given reads admits) (admitted-typed parsed given admits)))
 
-  comes-some : (command : Command) (bytes : List ℕ) → are_bytes bytes ≡ true → AtLeastOne (ComesTo command bytes)
-  comes-some command bytes h =
-      then-some (Is (within_limit bytes)) (DoesText command) (is-some _)
-      (λ text within. let w = within-given bytes text within in text-some command text (subst (λ t. are_bytes t ≡ true) (sym w.0) h) (subst (λ t. length t ≤ limit) (sym w.0) w.1))
+  comes-some : (command : Command) (looked : List ℕ) → are_bytes looked ≡ true → AtLeastOne (ComesFrom command looked)
+  comes-some command looked h =
+      then-some (Is (within_limit looked)) (DoesText command) (is-some _)
+      (λ text within. let w = within-given looked text within in text-some command text (subst (λ t. are_bytes t ≡ true) (sym w.0) h) (subst (λ t. length t ≤ limit) (sym w.0) w.1))
 
   pub replies-some : RepliesExist
-  replies-some command bytes h = let c = comes-some command bytes h in (reply_of c.0, (c.0, c.1, refl))
+  replies-some command bytes h = let c = comes-some command (text_for command bytes) (text-bytes command bytes h) in (reply_of c.0, (c.0, c.1, refl))
 
 -- a text within the limit goes on to the next stage
 pub within-limit-is : (bytes : List ℕ) → length bytes ≤ limit → Is (within_limit bytes) (Ok bytes)

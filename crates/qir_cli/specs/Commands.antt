@@ -13,7 +13,7 @@ use Rattle.profile_rules.specs.declared.finding.Form.{Form}
 use Rattle.output_lines.specs.declared.last.Schema.{Schema}
 use Rattle.profile_rules.specs.declared.finding.Form.TheVariants.{Strict, Chain}
 use Rattle.qir_cli.specs.declared.command.Command.{Command}
-use Rattle.qir_cli.specs.declared.command.Command.TheVariants.{Print, Check, Lower, Run, Trace}
+use Rattle.qir_cli.specs.declared.command.Command.TheVariants.{Print, Check, Lower, Run, Trace, Gen}
 use Rattle.run_commands.specs.Words.{schema_word, script_word, scripts_word}
 use Rattle.shots.specs.declared.backend.Backend.{Backend}
 use Rattle.shots.specs.declared.backend.Backend.TheVariants.{Bits}
@@ -99,6 +99,18 @@ trace_of (name ∷ steps ∷ outcome ∷ []) =
     if same_text name (codes "script") then trace_with (steps_word steps) (script_word outcome) else None
 trace_of (name ∷ steps ∷ outcome ∷ word ∷ words) = None
 
+-- the most turns of a generated program
+abbrev pub greatest_turns : ℕ
+greatest_turns = 10000
+
+abbrev pub turns_word : List ℕ → Option ℕ
+turns_word word = number_word 0 greatest_turns word
+
+abbrev pub gen_of : List (List ℕ) → Option Command
+gen_of [] = None
+gen_of (turns ∷ []) = option_map Gen (turns_word turns)
+gen_of (turns ∷ word ∷ words) = None
+
 -- the command that words are, compared exactly
 abbrev pub command_of : List (List ℕ) → Option Command
 command_of [] = None
@@ -107,7 +119,17 @@ command_of (name ∷ words) =
     else (if same_text name (codes "check") then check_of words
     else (if same_text name (codes "lower") then lower_of words
     else (if same_text name (codes "run") then run_of words
-    else (if same_text name (codes "trace") then trace_of words else None))))
+    else (if same_text name (codes "trace") then trace_of words
+    else (if same_text name (codes "gen") then gen_of words else None)))))
+
+-- the turns of the program that a command generates; every other command reads its input
+abbrev pub turns_of : Command → Option ℕ
+turns_of Print = None
+turns_of (Check profile) = None
+turns_of (Lower target budget) = None
+turns_of (Run schema steps backends) = None
+turns_of (Trace steps backend) = None
+turns_of (Gen turns) = Some turns
 
 -- the budget of a command is within its limit, as that of words is
 abbrev pub IsLimited : Command → Type 0
@@ -116,3 +138,4 @@ IsLimited (Check profile) = ⊤
 IsLimited (Lower target budget) = budget ≤ greatest_budget
 IsLimited (Run schema steps backends) = ⊤
 IsLimited (Trace steps backend) = ⊤
+IsLimited (Gen turns) = ⊤

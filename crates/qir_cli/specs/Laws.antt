@@ -2,7 +2,7 @@
 use Rattle.std.specs.Prelude.{◌≡◌, ℕ, true, List}
 use Rattle.ir_module.specs.Printable.{are_bytes}
 use Rattle.qir_cli.specs.declared.command.Command.{Command}
-use Rattle.qir_cli.specs.declared.command.Command.TheVariants.{Print, Check, Lower, Run, Trace}
+use Rattle.qir_cli.specs.declared.command.Command.TheVariants.{Print, Check, Lower, Run, Trace, Gen}
 use Rattle.qir_cli.specs.Replies.{Replies}
 use Rattle.qir_cli.specs.Stages.{AtMostOne, AtLeastOne}
 
@@ -13,6 +13,7 @@ HasOneText (Check profile) bytes = Unit {0}
 HasOneText (Lower target budget) bytes = Unit {0}
 HasOneText (Run schema steps backends) bytes = are_bytes bytes ≡ true
 HasOneText (Trace steps backend) bytes = are_bytes bytes ≡ true
+HasOneText (Gen turns) bytes = Unit {0}
 
 -- they have at most one reply to it
 abbrev pub RepliesAreOne : Type 0

@@ -1,6 +1,7 @@
 pub mod Admission
 pub mod Checking
 pub mod Commands
+pub mod Generating
 pub mod Headline
 pub mod Laws
 pub mod Lowering

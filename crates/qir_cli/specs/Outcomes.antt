@@ -1,11 +1,11 @@
 -- What a call of the program read and wrote.
-use Rattle.std.specs.Prelude.{◌≡◌, ◌⊎◌, ℕ, ◌<◌, List, [], length, take, Option, None, Some, IfSome, ⊤}
+use Rattle.std.specs.Prelude.{◌≡◌, ◌⊎◌, ℕ, ◌<◌, List, [], length, take, Option, None, Some, IfSome, IsSome, ⊤}
 use Rattle.qir_cli.specs.declared.command.Command.{Command}
-use Rattle.qir_cli.specs.declared.command.Command.TheVariants.{Print, Check, Lower, Run, Trace}
+use Rattle.qir_cli.specs.declared.command.Command.TheVariants.{Print, Check, Lower, Run, Trace, Gen}
 use Rattle.qir_cli.specs.declared.reply.Reply.{Reply}
 use Rattle.qir_cli.specs.declared.status.Status.{Status}
 use Rattle.qir_cli.specs.declared.status.Status.TheVariants.{Done, Refused, BadWords, Stopped, ReadFault, WriteFault, Memory}
-use Rattle.qir_cli.specs.Commands.{command_of}
+use Rattle.qir_cli.specs.Commands.{command_of, turns_of}
 use Rattle.qir_cli.specs.Replies.{Replies}
 use Rattle.qir_ports.specs.Known.{Takes}
 use Rattle.run_commands.specs.Shots.{AreWholeLines}
@@ -28,6 +28,12 @@ WritesAtOnce (Some (Check profile)) = ⊤
 WritesAtOnce (Some (Lower target budget)) = ⊤
 WritesAtOnce (Some (Run schema steps backends)) = ⊥
 WritesAtOnce (Some (Trace steps backend)) = ⊥
+WritesAtOnce (Some (Gen turns)) = ⊤
+
+-- the words are no command, or one that looks at a generated text: nothing is read
+abbrev pub LeavesInput : Option Command → Type 0
+LeavesInput None = ⊤
+LeavesInput (Some command) = IsSome (turns_of command)
 
 -- the statuses with which these words write nothing
 abbrev pub IsUnwritten : List (List ℕ) → Status → Type 0

@@ -9,6 +9,7 @@ ghost use Rattle.qir_cli.specs.Replies.{limit};
 
 use crate::admitted::{Admitted, admit_text};
 use crate::command::Command;
+use crate::generating::summarize_module;
 use crate::lowering::lower_module;
 use crate::reply::{check_module, print_module};
 use crate::sending::{send, status_of};
@@ -52,5 +53,6 @@ fn answer_for<K: Sink>(alloc: Global, command: &Command, a: &Admitted, out: &mut
         Command::Trace { steps, backend } => {
             status_of(trace(alloc, &a.checked, out, *steps, backend))
         }
+        Command::Gen { turns } => send(alloc, out, summarize_module(alloc, a, *turns)),
     }
 }

@@ -24,6 +24,9 @@ const GREATEST_BUDGET: u64 = 1_000_000;
 /// The most steps of a shot.
 const GREATEST_STEPS: u64 = 1_000_000;
 
+/// The most turns of a generated program.
+const GREATEST_TURNS: u64 = 10_000;
+
 /// A command.
 #[derive(Debug, Drop)]
 pub enum Command {
@@ -52,6 +55,22 @@ pub enum Command {
         steps: u64,
         backend: Backend,
     },
+    /// `gen N`: lowers and runs a generated program that makes so many turns, from 0 to 10,000, and sums up how that went.
+    Gen {
+        turns: u32,
+    },
+}
+
+impl Command {
+    /// How many turns the program makes that the command generates, if it generates one. Every other command reads its input.
+    pub(crate) fn turns(&self) -> Option<u32>
+        ensures { result ≡ spec.turns_of self.now }
+    {
+        match self {
+            Command::Gen { turns } => Some(*turns),
+            _ => None,
+        }
+    }
 }
 
 /// The command that the words are, compared exactly, if they are one. Memory may be wanted only where they are.
@@ -73,6 +92,8 @@ pub(crate) fn command_of(alloc: Global, words: &[String]) -> Result<Option<Comma
         run_of(alloc, rest)
     } else if is(name, b"trace") {
         trace_of(alloc, rest)
+    } else if is(name, b"gen") {
+        Ok(gen_of(rest))
     } else {
         Ok(None)
     }
@@ -228,6 +249,27 @@ fn trace_script(alloc: Global, steps: &String, outcome: &String) -> Result<Optio
         return Ok(None);
     };
     Ok(Some(Command::Trace { steps, backend }))
+}
+
+fn gen_of(words: &[String]) -> Option<Command>
+    ensures is { result ≡ spec.gen_of (spec.texts_of words.now) }
+    ensures limited { IfSome result spec.IsLimited }
+{
+    match words {
+        [turns] => {
+            let turns = turns_word(turns.as_str().as_bytes())?;
+            Some(Command::Gen { turns })
+        }
+        _ => None,
+    }
+}
+
+/// The number of turns that a word writes.
+fn turns_word(word: &[u8]) -> Option<u32>
+    ensures { result ≡ spec.turns_word word.now }
+{
+    let turns = number_word(word, 0, GREATEST_TURNS)?;
+    Some(turns as u32)
 }
 
 /// The bound of steps that a word writes.

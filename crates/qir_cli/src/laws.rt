@@ -2,6 +2,7 @@
 ghost use Rattle.qir_cli.specs.Laws.{RepliesAreOne, RepliesExist};
 
 use check_command::{reports_are_one, reports_exist};
+use generated_summary::laws::{summaries_are_one, summaries_exist};
 use ir_reader::one_answer;
 use lowering_verdicts::laws::{lowering_has_an_answer, lowering_has_one_answer};
 use read_modules::read_modules_are_printable;
@@ -19,6 +20,7 @@ pub fn replies_are_one()
     read_modules_are_printable();
     runs_are_one();
     traces_are_one();
+    summaries_are_one();
 }
 
 /// Every command has a reply to every list of bytes.
@@ -32,4 +34,5 @@ pub fn replies_exist()
     read_modules_are_printable();
     runs_exist();
     traces_exist();
+    summaries_exist();
 }

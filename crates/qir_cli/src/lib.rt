@@ -4,7 +4,9 @@
 mod admitted;
 mod answering;
 mod command;
+mod generating;
 mod laws;
+mod looking;
 mod lowering;
 mod program;
 mod refusal;

@@ -5,14 +5,14 @@ ghost use Rattle.ir_module.specs.Printable.{IsPrintable};
 ghost use Rattle.ir_reader.specs.Spelling.{Spells};
 ghost use Rattle.qir_cli.specs.Headline.{KeepsSource};
 ghost use Rattle.qir_cli.specs.Lowering.{Lowers};
-ghost use Rattle.qir_cli.specs.code.AdmittedCode.{parsed_of};
+ghost use Rattle.qir_cli.specs.code.AdmittedCode.{HasItsPlace, lower_stop, parsed_of};
 ghost use Rattle.qir_cli.specs.code.Stops.{Meets};
 
 use crate::admitted::Admitted;
 use crate::refusal::{Fault, Refusal, Stop};
 use crate::reply::Reply;
 use crate::status::Status;
-use ir_module::Spot;
+use ir_module::{Places, Spot};
 use kept_items::Target;
 use lowering_verdicts::laws::refusals_have_places;
 use qubit_lowering::lower;
@@ -43,10 +43,20 @@ pub(crate) fn lower_module(
             status: Status::Done,
             text: ir_printer::print(alloc, &module)?,
         }),
-        Err(LowerStop::Refused { at, kind }) => Err(Stop::Refused(Refusal {
+        Err(why) => Err(not_lowered(&a.places, why)),
+    }
+}
+
+/// What stops a command where a module isn't lowered, with its place.
+pub(crate) fn not_lowered(places: &Places, why: LowerStop) -> Stop
+    requires { HasItsPlace places.now why }
+    ensures { result ≡ lower_stop places.now why }
+{
+    match why {
+        LowerStop::Refused { at, kind } => Stop::Refused(Refusal {
             fault: Fault::Lower(kind),
-            place: a.places.of(Spot::At(at)),
-        })),
-        Err(LowerStop::Memory) => Err(Stop::Memory),
+            place: places.of(Spot::At(at)),
+        }),
+        LowerStop::Memory => Stop::Memory,
     }
 }

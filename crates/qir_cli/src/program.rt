@@ -1,25 +1,24 @@
 //! The whole program, over any source and sink.
-ghost use Rattle.std.specs.Prelude.{◌≡◌, ◌≤◌, ◌+◌, ◌↔◌, None};
+ghost use Rattle.std.specs.Prelude.{◌≡◌, ◌+◌, ◌↔◌, None, Some};
 ghost use Rattle.ir_values.specs.Counts.{Rose};
 ghost use Rattle.qir_ports.specs.Known.{GivesUpTo};
-ghost use Rattle.qir_cli.specs.Commands.{command_of, texts_of};
+ghost use Rattle.qir_cli.specs.code.Stops.{Serves};
+ghost use Rattle.qir_cli.specs.Commands.{IsLimited, command_of, texts_of};
 ghost use Rattle.qir_cli.specs.Headline.{WritesKept};
-ghost use Rattle.qir_cli.specs.Outcomes.{Answered, PartlyAnswered, WritesLines, IsAnswered, IsUnwritten};
+ghost use Rattle.qir_cli.specs.Outcomes.{Answered, LeavesInput, PartlyAnswered, WritesLines, IsAnswered, IsUnwritten};
 ghost use Rattle.qir_cli.specs.Replies.{limit};
 
 use crate::answering::answer;
-use crate::command::command_of;
+use crate::command::{Command, command_of};
+use crate::looking::text_for;
 use crate::refusal::{Fault, Stop};
 use crate::sending::send;
 use crate::status::Status;
-use qir_ports::{ReadError, Sink, Source, read_all};
+use qir_ports::{ReadError, Sink, Source};
 use std::alloc::Global;
 
-/// The most bytes that an input has.
-const LIMIT: usize = 4_194_304;
-
 /// Does what the words say, which is all that the program does: reads the source to its end, and
-/// writes the reply to the sink.
+/// writes the reply to the sink. `gen` reads nothing.
 ///
 /// - `BadWords` comes exactly where the words are no command, and then nothing is read or written.
 /// - `ReadFault` comes only where a read failed, and then nothing is written.
@@ -29,7 +28,8 @@ const LIMIT: usize = 4_194_304;
 ///   their whole text first, and by `run` and `trace` the first lines of the reply, each whole, or none.
 /// - Every other status comes with the whole of the reply that the command has to all the bytes that
 ///   the source had left, where it tells them.
-/// - With `Done`, `lower` has written a text that keeps what the module of those bytes does.
+/// - With `Done`, `lower` has written a text that keeps what the module of those bytes does, and `gen` says rightly that
+///   the two runs are the same.
 pub fn qir<S: Source, K: Sink>(
     alloc: Global,
     words: &Vec<String>,
@@ -37,7 +37,7 @@ pub fn qir<S: Source, K: Sink>(
     out: &mut K,
 ) -> Status
     ensures bad_words { (result ≡ Status.BadWords) ↔ (command_of (texts_of words.now.items) ≡ None) }
-    ensures unread { result ≡ Status.BadWords → input.new ≡ input.old }
+    ensures unread { LeavesInput (command_of (texts_of words.now.items)) → input.new ≡ input.old }
     ensures unwritten { IsUnwritten (texts_of words.now.items) result → out.new ≡ out.old }
     ensures read { GivesUpTo (limit + 1) (S.left input.old) (S.left input.new) }
     ensures read_fault { result ≡ Status.ReadFault → Rose (S.faults input.old) (S.faults input.new) }
@@ -57,8 +57,19 @@ pub fn qir<S: Source, K: Sink>(
     let Some(command) = known else {
         return Status::BadWords;
     };
-    match read_all(alloc, input, LIMIT) {
-        Ok(text) => answer(alloc, &command, text.as_slice(), out),
+    serve(alloc, &command, input, out)
+}
+
+/// Writes the reply of a command to the text that it looks at.
+fn serve<S: Source, K: Sink>(alloc: Global, command: &Command, input: &mut S, out: &mut K) -> Status
+    requires { IsLimited command.now }
+    ensures served { Serves command.now (S.left input.old)
+        (Rose (S.faults input.old) (S.faults input.new)) K.taken K.faults out.old out.new result }
+    ensures read { GivesUpTo (limit + 1) (S.left input.old) (S.left input.new) }
+    ensures unread { LeavesInput (Some command.now) → input.new ≡ input.old }
+{
+    match text_for(alloc, command, input) {
+        Ok(text) => answer(alloc, command, text.as_slice(), out),
         Err(ReadError::TooLong) => {
             send(alloc, out, Err(Stop::Refused(Fault::TooLong.at_start())))
         }

@@ -9,6 +9,8 @@ mod expected;
 mod faults;
 #[cfg(test)]
 mod forms;
+#[cfg(test)]
+mod generated;
 pub mod given;
 #[cfg(test)]
 mod lowered_texts;

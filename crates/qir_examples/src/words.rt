@@ -8,7 +8,7 @@ use std::test::Fail;
 fn words_that_are_no_command_read_and_write_nothing(rt: HostRuntime) -> Result<(), Fail> {
     let alloc = rt.alloc();
     let text = TWO_ALLOCATIONS.text(alloc)?;
-    let cases: [&[&str]; 17] = [
+    let cases: [&[&str]; 22] = [
         &[],
         &["lower"],
         &["lower", "base"],
@@ -26,6 +26,11 @@ fn words_that_are_no_command_read_and_write_nothing(rt: HostRuntime) -> Result<(
         &["lower", "adaptive", "7", "ints,ints"],
         &["lower", "adaptive", "7", "-,ints"],
         &["print", "x"],
+        &["gen"],
+        &["gen", "10001"],
+        &["gen", "007"],
+        &["gen", "x"],
+        &["gen", "7", "8"],
     ];
     for words in cases {
         let bad = run(alloc, words, text.as_slice(), Ports::honest())?;

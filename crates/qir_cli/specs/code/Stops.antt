@@ -1,5 +1,5 @@
 -- How the code stops and sends what it has.
-use Rattle.std.specs.Prelude.{◌≡◌, ℕ, ◌<◌, Bool, List, length, take, Option, Some, Result, Ok, Err, ⊤}
+use Rattle.std.specs.Prelude.{◌≡◌, ℕ, ◌<◌, Bool, List, length, take, Option, Some, IfSome, Result, Ok, Err, ⊤}
 use Rattle.ir_reader.specs.declared.parsed.Parsed.{Parsed}
 use Rattle.ir_reader.specs.declared.parsed.ReadStop.{ReadStop}
 use Rattle.ir_reader.specs.declared.parsed.ReadStop.TheVariants as read
@@ -14,10 +14,10 @@ use Rattle.qir_cli.specs.declared.refusal.Stop.{Stop}
 use Rattle.qir_cli.specs.declared.refusal.Stop.TheVariants as stop
 use Rattle.qir_cli.specs.declared.reply.Reply.{Reply}
 use Rattle.qir_cli.specs.declared.status.Status.{Status}
-use Rattle.qir_cli.specs.declared.status.Status.TheVariants.{Done, WriteFault, Memory}
+use Rattle.qir_cli.specs.declared.status.Status.TheVariants.{Done, ReadFault, WriteFault, Memory}
 use Rattle.qir_cli.specs.Headline.{KeepsBy}
 use Rattle.qir_cli.specs.Outcomes.{WritesAtOnce}
-use Rattle.qir_cli.specs.Replies.{DoesAdmitted, IsReplyTo, Replies, refused}
+use Rattle.qir_cli.specs.Replies.{ComesFrom, DoesAdmitted, IsReplyTo, refused, text_for}
 use Rattle.qir_cli.specs.Running.{ended}
 use Rattle.qir_ports.specs.Known.{Takes}
 use Rattle.run_commands.specs.Shots.{AreWholeLines}
@@ -57,9 +57,24 @@ pub data Becomes {K : Type 0} (Lines : Type 0) (P : Reply → Type 0) (taken : K
       → Takes (taken k) (take count reply.text) (taken k') → Becomes Lines P taken faults k k' Memory
   nothing : k' ≡ k → Becomes Lines P taken faults k k' Memory
 
--- the reply of a command to these bytes, and what it keeps
+-- the reply of a command to the text that it looks at, and what it keeps
 abbrev pub RepliesWell : Command → List ℕ → Reply → Type 0
-RepliesWell command bytes reply = Replies command bytes reply × KeepsWell command bytes reply
+RepliesWell command text reply = IsReplyTo (ComesFrom command text) reply × KeepsWell command text reply
+
+-- the command looks at this text, where the source had so much left
+pub record LooksAt (command : Command) (left : Option (List ℕ)) (text : List ℕ) : Type 0 where
+  pub bytes : List ℕ
+  pub input : IfSome left (λ all. all ≡ bytes)
+  pub is : text ≡ text_for command bytes
+
+-- What a command comes to at its source and its sink: its reply to the text that it looks at; or a read fails, which is counted (Failed),
+-- and nothing is written; or there is no memory for the text.
+pub data Serves {K : Type 0} (command : Command) (left : Option (List ℕ)) (Failed : Type 0)
+    (taken : K → Option (List ℕ)) (faults : K → ℕ) (k k' : K) : Status → Type 0 where
+  replies : (text : List ℕ) (s : Status) → LooksAt command left text
+      → Becomes (ByLines command) (RepliesWell command text) taken faults k k' s → Serves command left Failed taken faults k k' s
+  not_read : Failed → k' ≡ k → Serves command left Failed taken faults k k' ReadFault
+  no_room : k' ≡ k → Serves command left Failed taken faults k k' Memory
 
 -- its reply to a module that was admitted, and what it keeps of all bytes that spell it
 abbrev pub DoesWell : Command → Parsed → Reply → Type 0

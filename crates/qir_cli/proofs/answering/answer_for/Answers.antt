@@ -4,7 +4,7 @@ use Rattle.ir_module.specs.declared.tree.Module.{Module}
 use Rattle.run_commands.specs.Shots.{TellsRecords}
 use Rattle.qir_cli.specs.code.AdmittedCode.{parsed_of}
 use Rattle.qir_cli.specs.code.Stops.{Becomes, ByLines, DoesWell, Meets}
-use Rattle.qir_cli.specs.declared.command.Command.TheVariants.{Print, Check, Lower, Run, Trace}
+use Rattle.qir_cli.specs.declared.command.Command.TheVariants.{Print, Check, Lower, Run, Trace, Gen}
 use Rattle.qir_cli.specs.Replies.{printed}
 use Rattle.qir_cli.specs.Stages.{Is}
 use Rattle.qir_cli.proofs.Becoming.{no-promise, send-does}
@@ -47,3 +47,10 @@ returns-in-Trace g c =
     subst (λ command. Becomes (ByLines command) (DoesWell command parsed) g.K.Sink.taken g.K.Sink.faults c.args.out.now c.trace.new.out c.status_of-in-Trace.result) (sym c.in-Trace.is)
     (subst (λ s. Becomes (⊥ → ⊥) (DoesWell (Trace c.in-Trace.steps c.in-Trace.backend) parsed) g.K.Sink.taken g.K.Sink.faults c.args.out.now c.trace.new.out s) (sym c.status_of-in-Trace.ensures)
     (trace-becomes g.K.Sink.taken g.K.Sink.faults c.args.out.now c.trace.new.out c.in-Trace.steps c.in-Trace.backend parsed c.trace.result c.trace.ensures.told))
+
+pub returns-in-Gen : goal.returns-in-Gen
+returns-in-Gen g c =
+    let parsed = parsed_of c.args.a.now in
+    subst (λ command. Becomes (ByLines command) (DoesWell command parsed) g.K.Sink.taken g.K.Sink.faults c.args.out.now c.send-in-Gen.new.out c.send-in-Gen.result) (sym c.in-Gen.is)
+    (send-does (Gen c.in-Gen.turns) parsed g.K.Sink.taken g.K.Sink.faults c.args.out.now c.send-in-Gen.new.out c.summarize_module.result c.send-in-Gen.result
+    c.summarize_module.ensures.meets c.summarize_module.ensures.kept c.send-in-Gen.ensures)

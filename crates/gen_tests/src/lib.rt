@@ -1,5 +1,0 @@
-//! Tests of the command `gen`: worked examples of its summary.
-#![tactic(auto)]
-
-#[cfg(test)]
-mod examples;
